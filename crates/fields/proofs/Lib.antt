@@ -1,0 +1,4 @@
+pub mod PartLaws
+pub mod NumberLaws
+pub mod CommonLaws
+pub mod MoveLaws

@@ -1,0 +1,33 @@
+-- `fields::big::write2` meets its contract: the two stores are the number's bytes, by `stored-two-big`. Assumes nothing.
+use Prim.Native.Nat.{_<_}
+use native.Mathlib.Omega.{arith}
+use lib.ListN.{length-set}
+use Rattle.fields.proofs.NumberLaws.{stored-two-big}
+use borrow.Author.Needs.{needs}
+use Rattle.fields.proofs.big.write2.Statement.{statement}
+use Rattle.fields.proofs.big.write2.Tie as tie
+
+cast-s : tie.Need-cast-s
+cast-s c = search needs
+
+slice-write-s : tie.Need-slice-write-s
+slice-write-s c = search needs
+
+cast-s-2 : tie.Need-cast-s-2
+cast-s-2 c = search needs
+
+add-s : tie.Need-add-s
+add-s c = search needs
+
+slice-write-s-2 : tie.Need-slice-write-s-2
+slice-write-s-2 c = simp length-set (omega arith)
+
+same-length : tie.Need-same-length
+same-length c = search needs
+
+returns : tie.Need-returns
+returns c = let h : c .args .value < 65536 = omega arith in rw stored-two-big
+
+pub write2-spec : {M : Type 1} → statement M
+write2-spec =
+    tie.close (tie.spec cast-s slice-write-s cast-s-2 add-s slice-write-s-2 same-length returns)

@@ -1,0 +1,317 @@
+-- A law for each way out of a function: from its callees' contracts to its own. Assumes nothing.
+use mathlib.Core.Path.{_≡_, refl, sym, ap, _∙_}
+use mathlib.Core.Bool.{Bool, true, false, cond, _&&_}
+use mathlib.Core.Option.{Option, none, some}
+use mathlib.Core.List.{List, [], _∷_, _++_}
+use Prim.Native.Nat.{ℕ, _+_, _-_, _*_, _/_, _%_, _≤_, _<_, min}
+use native.Mathlib.Numerals.{add-one}
+use native.Mathlib.Omega.{arith}
+use lib.Dec.{leb, ltb, eqb}
+use lib.ListN.{length, getD, take, drop, length-take}
+use borrow.Author.Tests.{lt-ltb, le-ltb, le-leb, lt-leb, eq-eqb, ne-eqb}
+use Rattle.model.specs.Key.{keyLimit}
+use Rattle.model.specs.Numbers.{headerSize, blockSize, most, leastSize, capacityOf}
+use Rattle.fields.specs.Part.{part, splice}
+use Rattle.fields.specs.Number.{little, littleBytes}
+use Rattle.fields.proofs.PartLaws.{lent, lent-back, length-part, length-splice}
+use Rattle.sparse_array.specs.Entries.{lookup, head}
+use Rattle.sparse_array.specs.Array.{size, entries, withSlot, withoutSlot, cleared}
+use Rattle.sparse_array.specs.Answers.{got, gotOrHead, orElse, WasSet, WasRemoved}
+use Rattle.sparse_array.specs.declared.Got.{Got}
+use Rattle.sparse_array.specs.declared.Put.{Put}
+use Rattle.sparse_array.specs.declared.Removed.{Removed}
+use Rattle.sparse_array.proofs.ItemLaws.{length-bitmap}
+use Rattle.sparse_array.proofs.ArrayLaws.{length-set-bytes, length-remove-bytes}
+use Rattle.node.specs.Layout.{last, freeSize, start, arrayAt, sizeAt, valueAt, Room}
+use Rattle.node.specs.Child.{toLeaf, toBranch, decoded, itemOf}
+use Rattle.node.specs.Leaf.{keySize, leafIn, setLeaf, freeLeaf, setValue}
+use Rattle.node.specs.Branch.{arrayIn, childrenIn, freeBranch, linked, linkedGot, linkedIn, headLink, nearIn, setArray, setChild, removeChild, twoSlots, makeBranch}
+use Rattle.node.specs.Chain.{Kind, leaves, branches, taken, asLeaf, asBranch, takenLeaf, takenBranch, gaveLeaf, gaveBranch}
+use Rattle.node.specs.Create.{nextAfter, freedBelow, newHead, created, Created}
+use Rattle.node.specs.Header.{magic, markIn, header, headIn, rightNumbers, right, headOf, headBytes, setHead, setMark}
+use Rattle.node.specs.declared.child.Link.{Link}
+use Rattle.node.specs.declared.child.Linked.{Linked}
+use Rattle.node.specs.declared.child.Linked.the-variants.{To, Wrong}
+use Rattle.node.specs.declared.chain.TakenLeaf.the-variants.{Record as LeafRecord, Nothing as NoLeaf}
+use Rattle.node.specs.declared.chain.TakenBranch.the-variants.{Record as BranchRecord, Nothing as NoBranch}
+use Rattle.node.specs.declared.create.Made.the-variants.{Done, Room as NoRoom}
+use Rattle.node.specs.declared.header.Header.{Header}
+use Rattle.node.specs.declared.header.Head.the-variants.{Good, Bad}
+
+-- ---- links
+
+module _ (cap code p : ℕ) where
+  pub is-leaf : code < cap → To (toLeaf code p) ≡ decoded cap code p
+  is-leaf h = rw (lt-ltb code cap h)
+
+  pub is-between : cap ≤ code → code < most → Wrong ≡ decoded cap code p
+  is-between h k = rw (le-ltb code cap h, lt-ltb code most k)
+
+  pub is-branch : cap ≤ code → most ≤ code → code - most < cap → To (toBranch (code - most) p) ≡ decoded cap code p
+  is-branch h k l = rw (le-ltb code cap h, le-ltb code most k, lt-ltb (code - most) cap l)
+
+  pub is-past : cap ≤ code → most ≤ code → cap ≤ code - most → Wrong ≡ decoded cap code p
+  is-past h k l = rw (le-ltb code cap h, le-ltb code most k, le-ltb (code - most) cap l)
+
+-- ---- the header
+
+-- what fails, in the order of the tests
+module _ (st : List ℕ) where
+  pub bad-short : length st < leastSize → Bad ≡ headOf st
+  unfolding headOf
+  bad-short h = rw (lt-leb leastSize (length st) h)
+
+  pub bad-mark : leastSize ≤ length st → (m : ℕ) → m ≡ little 4 st 0 → (m ≡ magic → ⊥) → Bad ≡ headOf st
+  unfolding headOf markIn
+  bad-mark h m e ne = rw (le-leb leastSize (length st) h, ← e, ne-eqb m magic ne)
+
+  module _ (h : leastSize ≤ length st) (m : ℕ) (e : m ≡ little 4 st 0) (is : m ≡ magic) (k : Header) (q : k ≡ headIn st) where
+    marked : eqb (markIn st) magic ≡ true
+    unfolding markIn
+    marked = eq-eqb (little 4 st 0) magic (sym e ∙ is)
+
+    pub bad-capacity : (n : ℕ) → n ≡ capacityOf (length st) → (k .capacity ≡ n → ⊥) → Bad ≡ headOf st
+    unfolding headOf
+    bad-capacity n r ne = rw (le-leb leastSize (length st) h, marked, ← q, ← r, ne-eqb (k .capacity) n ne)
+
+    module _ (n : ℕ) (r : n ≡ capacityOf (length st)) (c : k .capacity ≡ n) where
+      pub bad-leaves : k .capacity < k .leaves → Bad ≡ headOf st
+      unfolding headOf
+      bad-leaves l = rw (le-leb leastSize (length st) h, marked, ← q, eq-eqb (k .capacity) (capacityOf (length st)) (c ∙ r), lt-leb (k .leaves) (k .capacity) l)
+
+      pub bad-branches : k .leaves ≤ k .capacity → k .capacity < k .branches → Bad ≡ headOf st
+      unfolding headOf
+      bad-branches l b =
+          rw (le-leb leastSize (length st) h, marked, ← q, eq-eqb (k .capacity) (capacityOf (length st)) (c ∙ r), le-leb (k .leaves) (k .capacity) l, lt-leb (k .branches) (k .capacity) b)
+
+      pub good-head : k .leaves ≤ k .capacity → k .branches ≤ k .capacity → Good k ≡ headOf st
+      unfolding headOf
+      good-head l b =
+          rw (le-leb leastSize (length st) h, marked, ← q, eq-eqb (k .capacity) (capacityOf (length st)) (c ∙ r), le-leb (k .leaves) (k .capacity) l, le-leb (k .branches) (k .capacity) b)
+
+pub numbers-read : (st : List ℕ) (c l u b r f g : ℕ) → c ≡ little 2 st 4 → l ≡ little 2 st 6 → u ≡ little 2 st 8 → b ≡ little 2 st 10 → r ≡ little 3 st 12 → f ≡ little 2 st 15 → g ≡ little 2 st 17
+    → header c l u b r f g ≡ headIn st
+unfolding headIn
+numbers-read st c l u b r f g e₀ e₁ e₂ e₃ e₄ e₅ e₆ = rw (e₀, e₁, e₂, e₃, e₄, e₅, e₆)
+
+pub numbers-written : (st s₁ s₂ s₃ s₄ s₅ s₆ s₇ : List ℕ) (c l u b r f g : ℕ) → s₁ ≡ splice st 4 (littleBytes 2 c) → s₂ ≡ splice s₁ 6 (littleBytes 2 l) → s₃ ≡ splice s₂ 8 (littleBytes 2 u)
+    → s₄ ≡ splice s₃ 10 (littleBytes 2 b) → s₅ ≡ splice s₄ 12 (littleBytes 3 r) → s₆ ≡ splice s₅ 15 (littleBytes 2 f) → s₇ ≡ splice s₆ 17 (littleBytes 2 g)
+    → s₇ ≡ setHead st (header c l u b r f g)
+unfolding setHead splice littleBytes
+numbers-written st s₁ s₂ s₃ s₄ s₅ s₆ s₇ c l u b r f g e₁ e₂ e₃ e₄ e₅ e₆ e₇ = rw (e₇, e₆, e₅, e₄, e₃, e₂, e₁)
+
+pub mark-written : (st s : List ℕ) → s ≡ splice st 0 (littleBytes 4 magic) → s ≡ setMark st
+unfolding setMark
+mark-written st s e = e
+
+-- ---- leaf records
+
+module _ (st : List ℕ) (n a : ℕ) where
+  pub key-short : (x : ℕ) → a ≡ sizeAt n → x ≡ getD st a 0 → x ≤ keyLimit → x ≡ keySize (leafIn st n .size)
+  unfolding leafIn
+  key-short x p q h = rw (← p, ← q) (omega arith)
+
+  pub key-over : (x : ℕ) → a ≡ sizeAt n → x ≡ getD st a 0 → keyLimit < x → keyLimit ≡ keySize (leafIn st n .size)
+  unfolding leafIn
+  key-over x p q h = rw (← p, ← q) (omega arith)
+
+  module _ (x : ℕ) (p : a ≡ start n) (q : x ≡ keySize (leafIn st n .size)) where
+    pub key-is : take (a + x - a) (drop a st) ≡ leafIn st n .key
+    unfolding leafIn
+    key-is = lent st a x ∙ rw (q, p)
+
+    pub key-fits : x ≤ keyLimit → length (take (a + x - a) (drop a st)) ≤ keyLimit
+    key-fits h = simp length-take (omega arith)
+
+  pub value-is : (x : ℕ) → a ≡ valueAt n → x ≡ little 4 st a → x ≡ leafIn st n .value
+  unfolding leafIn
+  value-is x p q = rw (← p) q
+
+  pub value-written : (s : List ℕ) (v : ℕ) → a ≡ valueAt n → s ≡ splice st a (littleBytes 4 v) → s ≡ setValue st n v
+  unfolding setValue
+  value-written s v p q = rw (← p) q
+
+  pub leaf-written : (k s₁ s₂ p : List ℕ) (t u v : ℕ) → Room st n → length k ≤ keyLimit → t ≡ sizeAt n → u ≡ valueAt n → a ≡ start n
+      → s₁ ≡ splice st t (length k ∷ []) → s₂ ≡ splice s₁ u (littleBytes 4 v) → p ≡ k
+      → take a s₂ ++ (p ++ drop (a + length k - a) (drop a s₂)) ≡ setLeaf st n k v
+  unfolding setLeaf
+  leaf-written k s₁ s₂ p t u v room h et eu ea e₁ e₂ ep =
+      let l : length s₂ ≡ length st =
+      ap length e₂ ∙ length-splice s₁ u (littleBytes 4 v) ∙ ap length e₁ ∙ length-splice st t (length k ∷ []) in
+      lent-back s₂ a (length k) p (omega arith) (ap length ep) ∙ rw (ep, e₂, e₁, et, eu, ea)
+
+-- ---- branch records
+
+length-two : (s x r y : ℕ) (a : List ℕ) → length (twoSlots s x r y a) ≡ length a
+unfolding cleared
+length-two s x r y a = length-set-bytes r y (withSlot s x (cleared a)) ∙ length-set-bytes s x (cleared a) ∙ length-bitmap a 0
+
+module _ (st : List ℕ) (n a : ℕ) (is : a ≡ arrayAt n) where
+  pub array-is : take (a + size - a) (drop a st) ≡ arrayIn st n
+  unfolding arrayIn
+  array-is = lent st a size ∙ rw is
+
+  pub array-size : Room st n → length (take (a + size - a) (drop a st)) ≡ size
+  array-size room = rw (lent st a size) (length-part st a size (omega arith))
+
+  -- the whole store once the array has come back
+  back : (p : List ℕ) → Room st n → length p ≡ size → take a st ++ (p ++ drop (a + size - a) (drop a st)) ≡ setArray st n p
+  back p room l = lent-back st a size p (omega arith) l ∙ rw is
+
+  pub child-set : (p : List ℕ) (r : Put) (slot item : ℕ) (l : Link) → Room st n → item ≡ itemOf l → WasSet slot item (take (a + size - a) (drop a st)) p r
+      → take a st ++ (p ++ drop (a + size - a) (drop a st)) ≡ setChild st n slot l
+  unfolding setChild
+  child-set p r slot item l room e w =
+      let q : p ≡ withSlot slot (itemOf l) (arrayIn st n) = w .bytes ∙ rw (array-is, e) in
+      back p room (ap length (w .bytes) ∙ length-set-bytes slot item (take (a + size - a) (drop a st)) ∙ array-size room) ∙ rw q
+
+  pub child-removed : (p : List ℕ) (r : Removed) (slot : ℕ) → Room st n → WasRemoved slot (take (a + size - a) (drop a st)) p r
+      → take a st ++ (p ++ drop (a + size - a) (drop a st)) ≡ removeChild st n slot
+  unfolding removeChild
+  child-removed p r slot room w =
+      let q : p ≡ withoutSlot slot (arrayIn st n) = w .bytes ∙ rw array-is in
+      back p room (ap length (w .bytes) ∙ length-remove-bytes slot (take (a + size - a) (drop a st)) ∙ array-size room) ∙ rw q
+
+  pub branch-made : (p : List ℕ) (s x r y : ℕ) (l k : Link) → Room st n → x ≡ itemOf l → y ≡ itemOf k → p ≡ twoSlots s x r y (take (a + size - a) (drop a st))
+      → take a st ++ (p ++ drop (a + size - a) (drop a st)) ≡ makeBranch st n s l r k
+  unfolding makeBranch
+  branch-made p s x r y l k room e f w =
+      let q : p ≡ twoSlots s (itemOf l) r (itemOf k) (arrayIn st n) = w ∙ rw (array-is, e, f) in
+      back p room (ap length w ∙ length-two s x r y (take (a + size - a) (drop a st)) ∙ array-size room) ∙ rw q
+
+pub two-made : (a b c d : List ℕ) (s x r y : ℕ) (t u : Put) → b ≡ cleared a → WasSet s x b c t → WasSet r y c d u → d ≡ twoSlots s x r y a
+two-made a b c d s x r y t u e v w = w .bytes ∙ rw (v .bytes, e)
+
+-- an answer of the array as a link
+linked-got : (cap : ℕ) (o : Option ℕ) → linkedGot cap (got o) ≡ linked cap o
+linked-got cap none = refl
+linked-got cap (some x) = refl
+
+module _ (a : List ℕ) (cap slot : ℕ) (g : Got) (l : Linked) where
+  pub got-linked : (st : List ℕ) (n : ℕ) → a ≡ arrayIn st n → g ≡ got (lookup slot (entries a)) → l ≡ linkedGot cap g → l ≡ linkedIn cap slot (childrenIn st n)
+  got-linked st n p q r = r ∙ rw (q, p) (linked-got cap (lookup slot (entries (arrayIn st n))))
+
+  pub got-near : (st : List ℕ) (n : ℕ) → slot ≤ 16 → a ≡ arrayIn st n → g ≡ gotOrHead slot (entries a) → l ≡ linkedGot cap g → l ≡ nearIn cap slot (childrenIn st n)
+  got-near st n h p q r = r ∙ rw (q, p, le-leb slot 16 h) (linked-got cap (orElse (lookup slot (entries (arrayIn st n))) (head (entries (arrayIn st n)))))
+
+  pub got-head : (st : List ℕ) (n : ℕ) → a ≡ arrayIn st n → g ≡ got (head (entries a)) → l ≡ linkedGot cap g → l ≡ headLink cap (childrenIn st n)
+  got-head st n p q r = r ∙ rw (q, p) (linked-got cap (head (entries (arrayIn st n))))
+
+pub count-is : (a st : List ℕ) (n r : ℕ) → a ≡ arrayIn st n → r ≡ length (entries a) → r ≡ length (childrenIn st n)
+count-is a st n r p q = q ∙ rw p
+
+-- ---- free records
+
+length-empty : (a : List ℕ) (x : ℕ) → length (splice (cleared a) 4 (littleBytes 2 x)) ≡ length a
+unfolding cleared
+length-empty a x = length-splice (cleared a) 4 (littleBytes 2 x) ∙ length-bitmap a 0
+
+module _ (st : List ℕ) (n a : ℕ) where
+  pub leaf-free : a ≡ sizeAt n → eqb (getD st a 0) freeSize ≡ leaves .isFree st n
+  unfolding leafIn
+  leaf-free p = rw p
+
+  pub branch-free : (r : ℕ) → r ≡ length (childrenIn st n) → eqb r 0 ≡ branches .isFree st n
+  branch-free r p = rw p
+
+  pub leaf-next : (x : ℕ) → a ≡ valueAt n → x ≡ little 2 st a → x ≡ leaves .next st n
+  unfolding leafIn
+  leaf-next x p q = rw (← p) q
+
+  pub branch-next : (x : ℕ) (b : List ℕ) → b ≡ arrayIn st n → x ≡ little 2 b 4 → x ≡ branches .next st n
+  branch-next x b p q = rw (← p) q
+
+  pub leaf-freed : (t x : ℕ) (s₁ s₂ : List ℕ) → t ≡ sizeAt n → a ≡ valueAt n → s₁ ≡ splice st t (freeSize ∷ []) → s₂ ≡ splice s₁ a (littleBytes 2 x) → s₂ ≡ leaves .freed st n x
+  unfolding freeLeaf
+  leaf-freed t x s₁ s₂ p q e f = f ∙ rw (e, p, q)
+
+  pub branch-freed : (x : ℕ) (p : List ℕ) → Room st n → a ≡ arrayAt n → p ≡ splice (cleared (take (a + size - a) (drop a st))) 4 (littleBytes 2 x)
+      → take a st ++ (p ++ drop (a + size - a) (drop a st)) ≡ branches .freed st n x
+  unfolding freeBranch
+  branch-freed x p room is w =
+      let q : p ≡ splice (cleared (arrayIn st n)) 4 (littleBytes 2 x) = w ∙ rw (array-is st n a is) in
+      back st n a is p room (ap length w ∙ length-empty (take (a + size - a) (drop a st)) x ∙ array-size st n a is room) ∙ rw q
+
+pub array-emptied : (a b c : List ℕ) (x : ℕ) → b ≡ cleared a → c ≡ splice b 4 (littleBytes 2 x) → c ≡ splice (cleared a) 4 (littleBytes 2 x)
+array-emptied a b c x e f = f ∙ rw e
+
+-- what `taken` is, by the tests in their order
+module _ (K : Kind) (st : List ℕ) (h : Header) where
+  taken-past : h .capacity ≤ K .first h → none ≡ taken K st h
+  taken-past l = rw (le-ltb (K .first h) (h .capacity) l)
+
+  taken-full : K .first h < h .capacity → h .capacity ≤ K .used h → none ≡ taken K st h
+  taken-full l m = rw (lt-ltb (K .first h) (h .capacity) l, le-ltb (K .used h) (h .capacity) m)
+
+  module _ (l : K .first h < h .capacity) (m : K .used h < h .capacity) where
+    taken-not : false ≡ K .isFree st (K .first h) → none ≡ taken K st h
+    taken-not f = rw (lt-ltb (K .first h) (h .capacity) l, lt-ltb (K .used h) (h .capacity) m, ← f)
+
+    taken-first : (x : ℕ) → true ≡ K .isFree st (K .first h) → x ≡ K .next st (K .first h) → some (K .first h, K .with h x (K .used h + 1)) ≡ taken K st h
+    taken-first x f e = rw (lt-ltb (K .first h) (h .capacity) l, lt-ltb (K .used h) (h .capacity) m, ← f, e)
+
+module _ (st : List ℕ) (h : Header) where
+  pub leaf-past : h .capacity ≤ h .leaf → NoLeaf ≡ takenLeaf st h
+  leaf-past l = ap asLeaf (taken-past leaves st h l)
+
+  pub branch-past : h .capacity ≤ h .branch → NoBranch ≡ takenBranch st h
+  branch-past l = ap asBranch (taken-past branches st h l)
+
+  pub leaf-full : h .leaf < h .capacity → h .capacity ≤ h .leaves → NoLeaf ≡ takenLeaf st h
+  leaf-full l m = ap asLeaf (taken-full leaves st h l m)
+
+  pub branch-full : h .branch < h .capacity → h .capacity ≤ h .branches → NoBranch ≡ takenBranch st h
+  branch-full l m = ap asBranch (taken-full branches st h l m)
+
+  module _ (f : Bool) (x : ℕ) where
+    pub leaf-not : h .leaf < h .capacity → h .leaves < h .capacity → f ≡ leaves .isFree st (h .leaf) → f ≡ false → NoLeaf ≡ takenLeaf st h
+    leaf-not l m e t = ap asLeaf (taken-not leaves st h l m (sym t ∙ e))
+
+    pub branch-not : h .branch < h .capacity → h .branches < h .capacity → f ≡ branches .isFree st (h .branch) → f ≡ false → NoBranch ≡ takenBranch st h
+    branch-not l m e t = ap asBranch (taken-not branches st h l m (sym t ∙ e))
+
+    pub leaf-first : h .leaf < h .capacity → h .leaves < h .capacity → f ≡ leaves .isFree st (h .leaf) → f ≡ true → x ≡ leaves .next st (h .leaf)
+        → LeafRecord (record { 0 = h .leaf }) (leaves .with h x (h .leaves + 1)) ≡ takenLeaf st h
+    leaf-first l m e t n = ap asLeaf (taken-first leaves st h l m x (sym t ∙ e) n)
+
+    pub branch-first : h .branch < h .capacity → h .branches < h .capacity → f ≡ branches .isFree st (h .branch) → f ≡ true → x ≡ branches .next st (h .branch)
+        → BranchRecord (record { 0 = h .branch }) (branches .with h x (h .branches + 1)) ≡ takenBranch st h
+    branch-first l m e t n = ap asBranch (taken-first branches st h l m x (sym t ∙ e) n)
+
+  pub leaf-given : (n x : ℕ) → x ≡ h .leaves - 1 → leaves .with h n x ≡ gaveLeaf h n
+  leaf-given n x e = rw e
+
+  pub branch-given : (n x : ℕ) → x ≡ h .branches - 1 → branches .with h n x ≡ gaveBranch h n
+  branch-given n x e = rw e
+
+-- ---- creation
+
+pub after-next : (r cap : ℕ) → r + 1 < cap → r + 1 ≡ nextAfter cap r
+after-next r cap h = rw (lt-ltb (r + 1) cap h)
+
+pub after-last : (r cap : ℕ) → cap ≤ r + 1 → last ≡ nextAfter cap r
+after-last r cap h = rw (le-ltb (r + 1) cap h)
+
+module _ (st : List ℕ) (cap : ℕ) where
+  pub freed-none : st ≡ freedBelow cap 0 st
+  unfolding freedBelow
+  freed-none = refl
+
+  pub freed-more : (r x : ℕ) (s₀ s₁ s₂ : List ℕ) → s₀ ≡ freedBelow cap r st → x ≡ nextAfter cap r → s₁ ≡ leaves .freed s₀ r x → s₂ ≡ branches .freed s₁ r x
+      → s₂ ≡ freedBelow cap (r + 1) st
+  unfolding freedBelow
+  freed-more r x s₀ s₁ s₂ e q f g = rw add-one (g ∙ rw (f, e, q))
+
+  pub freed-all : (r : ℕ) (s : List ℕ) → cap ≤ r → r ≤ cap → s ≡ freedBelow cap r st → s ≡ freedBelow cap cap st
+  freed-all r s h k e = let q : r ≡ cap = omega arith in rw q at e
+
+pub create-refused : (limit : ℕ) (st : List ℕ) → length st < leastSize → Created limit st st NoRoom
+create-refused limit st h = record { answer = rw (lt-ltb (length st) leastSize h); bytes = rw (lt-ltb (length st) leastSize h) }
+
+pub create-done : (limit : ℕ) (st s₁ s₂ s₃ : List ℕ) (cap : ℕ) → leastSize ≤ length st → cap ≡ capacityOf (length st) → s₁ ≡ freedBelow cap cap st → s₂ ≡ setMark s₁
+    → s₃ ≡ setHead s₂ (newHead cap limit) → Created limit st s₃ Done
+unfolding created
+create-done limit st s₁ s₂ s₃ cap h q e f g = record {
+  answer = rw (le-ltb (length st) leastSize h);
+  bytes = rw (le-ltb (length st) leastSize h) (g ∙ rw (f, e, q));
+}

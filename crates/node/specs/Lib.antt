@@ -1,0 +1,7 @@
+pub mod Layout
+pub mod Child
+pub mod Header
+pub mod Leaf
+pub mod Branch
+pub mod Chain
+pub mod Create

@@ -1,0 +1,70 @@
+// Leaf records: a length, a key and a value.
+use crate::child::LeafNo;
+use crate::layout::KEY_LIMIT;
+use crate::layout::size_at;
+use crate::layout::start;
+use crate::layout::value_at;
+use fields::little::read4;
+use fields::little::write4;
+use fields::wide;
+use fields::write1;
+ghost use mathlib.Core.Path.{_≡_};
+ghost use Prim.Native.Nat.{_≤_};
+ghost use lib.ListN.{length};
+ghost use Rattle.model.specs.Key.{keyLimit};
+ghost use Rattle.node.specs.Layout.{Room};
+ghost use Rattle.node.specs.Leaf.{leafIn, keySize, setLeaf, setValue};
+
+// How many bytes of a leaf record are its key: no more than the limit, whatever the length byte says.
+fn key_size(store: &[u8], n: u16) -> usize
+    requires { ⌜ Room (now store) n ⌝ }
+    ensures { λ r. ⌜ (r ≡ keySize (leafIn (now (store .entry)) n .size)) × (r ≤ keyLimit) ⌝ }
+{
+    let a = size_at(n);
+    let size = wide(store[a]) as usize;
+    if size <= KEY_LIMIT { size } else { KEY_LIMIT }
+}
+
+pub fn key(store: &[u8], leaf: LeafNo) -> &[u8]
+    requires { ⌜ Room (now store) (leaf .0) ⌝ }
+    ensures { λ r. ⌜ (now r ≡ leafIn (now (store .entry)) (leaf .0) .key) × (length (now r) ≤ keyLimit) ⌝ }
+{
+    let n = leaf.0;
+    let a = start(n);
+    let e = a + key_size(store, n);
+    &store[a..e]
+}
+
+pub fn value(store: &[u8], leaf: LeafNo) -> u32
+    requires { ⌜ Room (now store) (leaf .0) ⌝ }
+    ensures { λ r. ⌜ r ≡ leafIn (now (store .entry)) (leaf .0) .value ⌝ }
+{
+    let n = leaf.0;
+    let a = value_at(n);
+    read4(store, a)
+}
+
+// A leaf record with a key and a value. The bytes past a shorter key stay.
+pub fn write_leaf(store: &mut [u8], leaf: LeafNo, key: &[u8], value: u32)
+    requires { ⌜ (Room (now store) (leaf .0)) × (length (now key) ≤ keyLimit) ⌝ }
+    ensures { λ _. ⌜ now (store .exit) ≡ setLeaf (now (store .entry)) (leaf .0) (now (key .entry)) value ⌝ }
+{
+    let n = leaf.0;
+    let size = key.len();
+    let t = size_at(n);
+    write1(store, t, size as u8);
+    let v = value_at(n);
+    write4(store, v, value);
+    let a = start(n);
+    let e = a + size;
+    fields::copy(&mut store[a..e], key);
+}
+
+pub fn set_value(store: &mut [u8], leaf: LeafNo, value: u32)
+    requires { ⌜ Room (now store) (leaf .0) ⌝ }
+    ensures { λ _. ⌜ now (store .exit) ≡ setValue (now (store .entry)) (leaf .0) value ⌝ }
+{
+    let n = leaf.0;
+    let a = value_at(n);
+    write4(store, a, value);
+}

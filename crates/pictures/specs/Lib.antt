@@ -1,0 +1,6 @@
+pub mod Tree
+pub mod Calls
+pub mod Records
+pub mod Prefix
+pub mod Stored
+pub mod Chain

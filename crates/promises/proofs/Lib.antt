@@ -1,0 +1,13 @@
+pub mod MeansOne
+pub mod Determined
+pub mod EntryOne
+pub mod Times
+pub mod Listing
+pub mod Session
+pub mod WrongPrograms
+pub mod Bridge
+pub mod Possible
+pub mod History
+pub mod CasesHold
+pub mod RustInsert
+pub mod RustListing

@@ -1,0 +1,9 @@
+pub mod Meaning
+pub mod Says
+pub mod Promises
+pub mod Determined
+pub mod Moments
+pub mod Session
+pub mod History
+pub mod Cases
+pub mod Rust

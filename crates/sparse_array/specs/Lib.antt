@@ -1,0 +1,4 @@
+pub mod Bits
+pub mod Entries
+pub mod Array
+pub mod Answers
