@@ -153,9 +153,9 @@ module _ (xs : List ℕ) (at v : ℕ) where
   unfolding splice littleBytes
   stored-two h = let e : v / 256 % 256 ≡ v / 256 = omega arith in rw (add-one, e)
 
-  pub stored-three : v < 16777216 → splice xs at (littleBytes 3 v) ≡ set (set (set xs at (v % 256)) (at + 1) (v / 256 % 256)) (at + 2) (v / 65536)
+  pub stored-three : splice xs at (littleBytes 3 v) ≡ set (set (set xs at (v % 256)) (at + 1) (v / 256 % 256)) (at + 2) (v / 65536 % 256)
   unfolding splice littleBytes
-  stored-three h = let e : v / 256 / 256 % 256 ≡ v / 65536 = omega arith in rw (add-one, add-two, e)
+  stored-three = let e : v / 256 / 256 % 256 ≡ v / 65536 % 256 = omega arith in rw (add-one, add-two, e)
 
   pub stored-four : v < 4294967296
       → splice xs at (littleBytes 4 v) ≡ set (set (set (set xs at (v % 256)) (at + 1) (v / 256 % 256)) (at + 2) (v / 65536 % 256)) (at + 3) (v / 16777216)

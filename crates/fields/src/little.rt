@@ -1,4 +1,5 @@
-// Numbers of 2, 3 and 4 bytes in a slice, the low byte first, as a store has them. A sum of bytes compiles to one load.
+// Numbers of 2, 3 and 4 bytes in a slice, the low byte first, as a store has them. A sum of bytes compiles to one load. Of a number that is written in
+// 3 bytes the 24 low bits count.
 use super::wide;
 ghost use mathlib.Core.Path.{_≡_};
 ghost use Prim.Native.Nat.{_+_, _≤_, _<_};
@@ -36,12 +37,12 @@ pub fn write2(s: &mut [u8], at: usize, value: u16)
 }
 
 pub fn write3(s: &mut [u8], at: usize, value: u32)
-    requires { ⌜ (at + 3 ≤ length (now s)) × (value < 16777216) ⌝ }
+    requires { ⌜ at + 3 ≤ length (now s) ⌝ }
     ensures { λ _. ⌜ now (s .exit) ≡ splice (now (s .entry)) at (littleBytes 3 value) ⌝ }
 {
     s[at] = (value % 256) as u8;
     s[at + 1] = (value / 256 % 256) as u8;
-    s[at + 2] = (value / 65536) as u8;
+    s[at + 2] = (value / 65536 % 256) as u8;
 }
 
 pub fn write4(s: &mut [u8], at: usize, value: u32)

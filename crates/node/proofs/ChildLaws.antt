@@ -50,7 +50,7 @@ module _ (cap : ℕ) (fits : cap ≤ most) (n p : ℕ) (h : n < cap) (q : p < 25
 pub apart : (cap n p m q : ℕ) → cap ≤ most → n < cap → itemOf (toLeaf n p) ≡ itemOf (toBranch m q) → m < cap → ⊥
 apart cap n p m q fits h e k = omega arith
 
--- "A number read from the store is tested against the capacity": what a link leads to is a record of the store
+-- what a link leads to is a record of the store: its number is below the capacity
 pub within : (cap item : ℕ) (l : Link) → linkOf cap item ≡ To l → numberIn (l .child) < cap
 within cap item l e = go (ltb code cap) refl (ltb code most) (ltb (code - most) cap) refl e
   where

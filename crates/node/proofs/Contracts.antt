@@ -14,7 +14,7 @@ use Rattle.model.specs.Numbers.{headerSize, blockSize, most, leastSize, capacit
 use Rattle.fields.specs.Part.{part, splice}
 use Rattle.fields.specs.Number.{little, littleBytes}
 use Rattle.fields.proofs.PartLaws.{lent, lent-back, length-part, length-splice}
-use Rattle.sparse_array.specs.Entries.{lookup, head}
+use Rattle.sparse_array.specs.Entries.{lookup, head, erase}
 use Rattle.sparse_array.specs.Array.{size, entries, withSlot, withoutSlot, cleared}
 use Rattle.sparse_array.specs.Answers.{got, gotOrHead, orElse, WasSet, WasRemoved}
 use Rattle.sparse_array.specs.declared.Got.{Got}
@@ -196,6 +196,10 @@ module _ (a : List ℕ) (cap slot : ℕ) (g : Got) (l : Linked) where
 
   pub got-head : (st : List ℕ) (n : ℕ) → a ≡ arrayIn st n → g ≡ got (head (entries a)) → l ≡ linkedGot cap g → l ≡ headLink cap (childrenIn st n)
   got-head st n p q r = r ∙ rw (q, p) (linked-got cap (head (entries (arrayIn st n))))
+
+pub got-other : (a : List ℕ) (cap slot : ℕ) (g : Got) (l : Linked) (st : List ℕ) (n : ℕ) → a ≡ arrayIn st n → g ≡ got (head (erase slot (entries a))) → l ≡ linkedGot cap g
+    → l ≡ headLink cap (erase slot (childrenIn st n))
+got-other a cap slot g l st n p q r = r ∙ rw (q, p) (linked-got cap (head (erase slot (entries (arrayIn st n)))))
 
 pub count-is : (a st : List ℕ) (n r : ℕ) → a ≡ arrayIn st n → r ≡ length (entries a) → r ≡ length (childrenIn st n)
 count-is a st n r p q = q ∙ rw p

@@ -1,4 +1,5 @@
 -- Branch records: what the bytes of block n say of branch n, and the store with other links there.
+-- Assumes nothing.
 use Prim.Native.Nat.{ℕ}
 use mathlib.Core.List.{List}
 use mathlib.Core.Option.{Option, none, some}

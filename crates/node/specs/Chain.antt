@@ -1,5 +1,6 @@
 -- The free records of each kind: how a free record looks, what taking the first one and giving one back do to the bytes and to the header's numbers.
 -- A `Kind` has what differs between leaves and branches, so that what holds of both is said once.
+-- Assumes nothing.
 use Prim.Native.Nat.{ℕ, _+_, _-_}
 use mathlib.Core.Bool.{Bool, cond, _&&_}
 use mathlib.Core.List.{List}

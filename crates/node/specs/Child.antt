@@ -1,8 +1,9 @@
 -- Links: what the 3 bytes of an item stand for, and the bytes of a link.
 -- "In storage, a child is either a leaf with its number or a branch with its number; leaf numbers and branch numbers are kept apart so that neither is used as the other."
+-- Assumes nothing.
 use Prim.Native.Nat.{ℕ, _+_, _-_, _*_, _/_, _%_}
 use mathlib.Core.Bool.{cond}
-use lib.Dec.{ltb, leb}
+use lib.Dec.{ltb}
 use Rattle.model.specs.Numbers.{most}
 use Rattle.node.specs.declared.child.Child.{Child}
 use Rattle.node.specs.declared.child.Child.the-variants.{Leaf, Branch}

@@ -1,4 +1,5 @@
 -- A new store: every record free, in the order of the numbers, and a header that says so.
+-- Assumes nothing.
 use Prim.Native.Nat.{ℕ, zero, suc, _+_}
 use mathlib.Core.Path.{_≡_}
 use mathlib.Core.Bool.{Bool, true, false, cond}

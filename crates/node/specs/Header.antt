@@ -1,5 +1,6 @@
 -- The header: a mark with the layout's version in the first 4 bytes, then seven numbers; when it is right, and the store with other numbers in it.
 -- The bytes after the last number are not read or written.
+-- Assumes nothing.
 use Prim.Native.Nat.{ℕ}
 use mathlib.Core.Bool.{Bool, cond, _&&_}
 use mathlib.Core.List.{List, _++_}

@@ -1,5 +1,6 @@
 -- The places of the store: a header, then a block for each key of the capacity. A block is the key bytes and a tail of 64 bytes. Every place hangs on the
 -- key limit, which no law knows.
+-- Assumes nothing.
 use Prim.Native.Nat.{ℕ, _+_, _*_, _≤_}
 use mathlib.Core.List.{List}
 use lib.ListN.{length}
@@ -18,7 +19,7 @@ freeSize = 255
 abbrev pub start : ℕ → ℕ
 start n = headerSize + blockSize * n
 
--- in the tail: the branch record's sparse array, and in it the first item; the leaf record's length and value
+-- in the tail: the branch record's sparse array; the leaf record's length and value
 abbrev pub arrayAt : ℕ → ℕ
 arrayAt n = start n + keyLimit
 

@@ -1,4 +1,5 @@
 -- Leaf records: what the bytes of block n say of leaf n, and the store with another leaf there.
+-- Assumes nothing.
 use Prim.Native.Nat.{ℕ, min}
 use mathlib.Core.List.{List, [], _∷_}
 use lib.ListN.{length, getD}

@@ -10,9 +10,10 @@ ghost use mathlib.Core.Path.{_≡_};
 ghost use Prim.Native.Nat.{_≤_, _<_};
 ghost use lib.ListN.{length};
 ghost use Rattle.model.specs.Numbers.{most};
+ghost use Rattle.sparse_array.specs.Entries.{erase};
 ghost use Rattle.sparse_array.specs.Array.{size as arraySize};
 ghost use Rattle.node.specs.Layout.{Room};
-ghost use Rattle.node.specs.Child.{itemOf, numberIn};
+ghost use Rattle.node.specs.Child.{numberIn};
 ghost use Rattle.node.specs.Branch.{arrayIn, childrenIn, linkedGot, linkedIn, nearIn, headLink, setChild, removeChild, twoSlots, makeBranch};
 
 // The record's array, as a part of the store.
@@ -62,6 +63,15 @@ pub fn head_child(store: &[u8], branch: BranchNo, capacity: u16) -> Linked
     linked(sparse_array::head(array(store, n)), capacity)
 }
 
+// The link of the lowest present slot but for one.
+pub fn other_child(store: &[u8], branch: BranchNo, slot: u8, capacity: u16) -> Linked
+    requires { ⌜ Room (now store) (branch .0) ⌝ }
+    ensures { λ r. ⌜ r ≡ headLink capacity (erase slot (childrenIn (now (store .entry)) (branch .0))) ⌝ }
+{
+    let n = branch.0;
+    linked(sparse_array::head_without(array(store, n), slot), capacity)
+}
+
 // The number of children.
 pub fn child_count(store: &[u8], branch: BranchNo) -> usize
     requires { ⌜ Room (now store) (branch .0) ⌝ }
@@ -96,7 +106,7 @@ pub fn remove_child(store: &mut [u8], branch: BranchNo, slot: u8)
 
 // The array of two children and no other.
 fn make_two(s: &mut [u8], low: u8, first: u32, high: u8, second: u32)
-    requires { ⌜ (length (now s) ≡ arraySize) × ((first < 16777216) × (second < 16777216)) ⌝ }
+    requires { ⌜ length (now s) ≡ arraySize ⌝ }
     ensures { λ _. ⌜ now (s .exit) ≡ twoSlots low first high second (now (s .entry)) ⌝ }
 {
     sparse_array::clear(s);

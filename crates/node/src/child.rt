@@ -2,7 +2,7 @@
 // the other. A link is a child and, for a branch, the position at which that branch stands; in the store it is a number of 3 bytes.
 use crate::layout::MOST;
 ghost use mathlib.Core.Path.{_≡_};
-ghost use Prim.Native.Nat.{_≤_, _<_};
+ghost use Prim.Native.Nat.{_<_};
 ghost use Rattle.model.specs.Numbers.{most};
 ghost use Rattle.node.specs.Child.{linkOf, itemOf, codeOf, numberIn};
 

@@ -10,7 +10,7 @@ use fields::little::write2;
 use fields::little::write3;
 use fields::little::write4;
 ghost use mathlib.Core.Path.{_≡_};
-ghost use Prim.Native.Nat.{_≤_, _<_};
+ghost use Prim.Native.Nat.{_≤_};
 ghost use lib.ListN.{length};
 ghost use Rattle.model.specs.Numbers.{headerSize};
 ghost use Rattle.node.specs.Header.{headIn, headOf, header, setHead, setMark};
@@ -96,7 +96,7 @@ fn put_numbers(
     leaf: u16,
     branch: u16,
 )
-    requires { ⌜ (headerSize ≤ length (now store)) × (root < 16777216) ⌝ }
+    requires { ⌜ headerSize ≤ length (now store) ⌝ }
     ensures { λ _. ⌜ now (store .exit) ≡ setHead (now (store .entry)) (header capacity limit leaves branches root leaf branch) ⌝ }
 {
     write2(store, 4, capacity);
@@ -109,7 +109,7 @@ fn put_numbers(
 }
 
 pub fn put_head(store: &mut [u8], h: Header)
-    requires { ⌜ (headerSize ≤ length (now store)) × (h .root < 16777216) ⌝ }
+    requires { ⌜ headerSize ≤ length (now store) ⌝ }
     ensures { λ _. ⌜ now (store .exit) ≡ setHead (now (store .entry)) h ⌝ }
 {
     put_numbers(

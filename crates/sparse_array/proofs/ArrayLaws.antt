@@ -2,7 +2,7 @@
 -- Assumes nothing.
 use mathlib.Core.Path.{_≡_, refl, sym, ap, _∙_}
 use mathlib.Core.Bool.{Bool, true, false, cond}
-use mathlib.Core.Option.{none, some}
+use mathlib.Core.Option.{Option, none, some}
 use mathlib.Core.List.{List, []}
 use Prim.Native.Nat.{ℕ, suc, _+_, _*_, _^_, _≤_, _<_}
 use native.Mathlib.Nat.{le-trans}
@@ -14,9 +14,12 @@ use lib.ListN.{getD, set, take, length, length-set, List·getD-eq-default}
 use Rattle.sparse_array.specs.Bits.{bitsOf, numberOf, count, lowest}
 use Rattle.sparse_array.specs.Entries.{pack, lookup, head, tail, insert, erase, below, Rising}
 use Rattle.sparse_array.specs.Array.{size, bitmapOf, present, itemAt, entries, withItem, withBitmap, opened, closed, turned, placeIn, countIn, isIn, withSlot, withoutSlot, withoutLowest, cleared}
-use Rattle.sparse_array.specs.Answers.{here}
+use Rattle.sparse_array.specs.Answers.{here, got, newOr, removedAnswer, gotNumber, putNumber, removedNumber, WasSet, WasRemoved, WasPopped}
+use Rattle.sparse_array.specs.declared.Got.{Got}
+use Rattle.sparse_array.specs.declared.Put.{Put}
+use Rattle.sparse_array.specs.declared.Removed.{Removed}
 use Rattle.sparse_array.proofs.BitLaws.{length-bits, bits-number, number-lt}
-use Rattle.sparse_array.proofs.EntryLaws.{lookup-pack, below-pack, length-pack, head-pack, pack-none, pack-ext, put-in, put-over, take-out, insert-pack, replace-pack, erase-pack, erase-lowest, erase-missing, is-put-in, is-put-over, is-take-out, count-set, count-clear, count-le, count-take, place-le, place-lt, lowest-set, lowest-lt, pack-rising}
+use Rattle.sparse_array.proofs.EntryLaws.{lookup-pack, below-pack, length-pack, head-pack, pack-none, pack-ext, put-in, put-over, take-out, insert-pack, replace-pack, erase-pack, erase-lowest, erase-missing, is-put-in, is-put-over, is-take-out, count-set, count-clear, count-le, count-take, place-le, place-lt, lowest-set, lowest-lt, none-set, pack-rising}
 use Rattle.sparse_array.proofs.ItemLaws.{length-item, length-bitmap, length-opened, length-closed, item-same, item-other, bitmap-kept, bitmap-new, item-kept, opened-bitmap, opened-below, opened-above, closed-bitmap, closed-below, closed-above}
 
 -- ---- reading: `bits` is the bitmap as code holds it
@@ -221,3 +224,33 @@ length-remove-bytes slot a = go (isIn a slot)
     go : (t : Bool) → length (cond t (withBitmap (closed (placeIn a slot) (countIn a) a) (turned a slot false)) a) ≡ length a
     go true = length-bitmap (closed (placeIn a slot) (countIn a) a) (turned a slot false) ∙ length-closed (placeIn a slot) (countIn a) a
     go false = refl
+
+-- ---- "ABSENT and change nothing": by document 01's numbers, a refusal is from 10 up
+
+pub set-refused : (slot v : ℕ) (a b : List ℕ) (r : Put) → WasSet slot v a b r → 10 ≤ putNumber r → b ≡ a
+unfolding withSlot
+set-refused slot v a b r w h = go (leb slot 16) refl
+  where
+    go : (s : Bool) → leb slot 16 ≡ s → b ≡ a
+    go true e = absurd (taken (lookup slot (entries a)) (w .answer ∙ rw e))
+      where
+        taken : (o : Option ℕ) → r ≡ newOr o → ⊥
+        taken none q = absurd (omega (arith, rw q at h))
+        taken (some x) q = absurd (omega (arith, rw q at h))
+    go false e = w .bytes ∙ rw e
+
+pub remove-refused : (slot : ℕ) (a b : List ℕ) (r : Removed) → WasRemoved slot a b r → 10 ≤ removedNumber r → b ≡ a
+unfolding withoutSlot
+remove-refused slot a b r w h = go (isIn a slot) refl
+  where
+    go : (t : Bool) → isIn a slot ≡ t → b ≡ a
+    go true e = absurd (omega (arith, rw (w .answer ∙ ap removedAnswer (found a (bitmapOf a) slot refl (placeIn a slot) (itemAt a (placeIn a slot)) e refl refl)) at h))
+    go false e = w .bytes ∙ rw e
+
+pub pop-refused : (a b : List ℕ) (r : Got) → WasPopped a b r → 10 ≤ gotNumber r → b ≡ a
+unfolding withoutLowest withoutSlot
+pop-refused a b r w h = go (decLt 0 (count (present (bitmapOf a))))
+  where
+    go : Dec (0 < count (present (bitmapOf a))) → b ≡ a
+    go (yes l) = absurd (omega (arith, rw (w .answer ∙ ap got (first a (bitmapOf a) refl (itemAt a 0) l refl)) at h))
+    go (no l) = w .bytes ∙ rw (none-set (present (bitmapOf a)) (omega arith))

@@ -3,21 +3,22 @@ use mathlib.Core.Path.{_≡_, refl, sym, ap, _∙_}
 use mathlib.Core.Bool.{Bool, true, false, cond}
 use mathlib.Core.Option.{none, some}
 use mathlib.Core.List.{List}
-use Prim.Native.Nat.{ℕ, _≤_, _<_}
+use Prim.Native.Nat.{ℕ, zero, suc, _≤_, _<_}
 use native.Mathlib.Omega.{arith}
 use lib.Dec.{leb, eqb}
 use lib.ListN.{length, getD, set, take}
 use borrow.Author.Tests.{le-leb, lt-leb}
 use Rattle.sparse_array.specs.Bits.{count, lowest}
-use Rattle.sparse_array.specs.Entries.{lookup, head}
+use Rattle.sparse_array.specs.Entries.{Entry, pack, lookup, head, erase}
 use Rattle.sparse_array.specs.Array.{size, bitmapOf, present, itemAt, entries, withItem, withBitmap, opened, closed, isIn, withSlot, withoutSlot, withoutLowest}
 use Rattle.sparse_array.specs.Answers.{got, gotOrHead, here, placed, WasSet, WasRemoved, WasPopped}
+use Rattle.sparse_array.specs.declared.Got.{Got}
 use Rattle.sparse_array.specs.declared.Got.the-variants.{Item, Absent}
 use Rattle.sparse_array.specs.declared.Place.the-variants.{At, Absent as PlaceAbsent}
 use Rattle.sparse_array.specs.declared.Put.the-variants.{New, Replaced, Absent as PutAbsent}
 use Rattle.sparse_array.specs.declared.Removed.the-variants.{Done, Absent as RemovedAbsent}
 use Rattle.sparse_array.proofs.BitLaws.{number-is}
-use Rattle.sparse_array.proofs.EntryLaws.{place-le, place-lt, lowest-set, lowest-place, none-set}
+use Rattle.sparse_array.proofs.EntryLaws.{place-le, place-lt, lowest-set, lowest-place, none-set, erase-missing, erase-pack, take-out, count-clear, pack-none, head-pack}
 use Rattle.sparse_array.proofs.ArrayLaws.{over, found, missing, presence, placed-at, counted, first, empty, beyond, room}
 
 -- ---- no slot over 16
@@ -71,6 +72,43 @@ module _ (a : List ℕ) (bits n : ℕ) (is : bits ≡ bitmapOf a) (e : n ≡ cou
             rw (← is, lowest-set (present bits) h, lowest-place (present bits), ← e, ← low)
             (q ∙ rw (o, number-is 17 m (set (present bits) slot false) w p));
       }
+
+-- ---- the lowest slot but for one
+
+module _ (a : List ℕ) (slot : ℕ) (g : Got) (is : g ≡ got (head (entries a))) where
+  pub head-beyond : 16 < slot → g ≡ got (head (erase slot (entries a)))
+  head-beyond h = is ∙ ap (λ (es : List Entry). got (head es)) (sym (erase-missing slot (entries a) (beyond a slot h)))
+
+  pub head-missing : (bits : ℕ) (f : Bool) → bits ≡ bitmapOf a → f ≡ getD (present bits) slot false → f ≡ false → g ≡ got (head (erase slot (entries a)))
+  head-missing bits f e q t = is ∙ ap (λ (es : List Entry). got (head es)) (sym (erase-missing slot (entries a) (missing a bits slot e (sym q ∙ t))))
+
+module _ (a : List ℕ) (bits slot n : ℕ) (f : Bool) (is : bits ≡ bitmapOf a) (q : f ≡ getD (present bits) slot false) (t : f ≡ true) (e : n ≡ count (present bits)) where
+  left : erase slot (entries a) ≡ pack (set (present bits) slot false) (take-out (count (take slot (present bits))) (itemAt a))
+  unfolding entries
+  left = rw (← is) (sym (erase-pack (present bits) (itemAt a) slot (sym q ∙ t)))
+
+  fewer : suc (count (set (present bits) slot false)) ≡ n
+  fewer = count-clear (present bits) slot (sym q ∙ t) ∙ sym e
+
+  pub other-none : n ≡ 1 → Absent ≡ got (head (erase slot (entries a)))
+  other-none z = rw (left, pack-none (set (present bits) slot false) (take-out (count (take slot (present bits))) (itemAt a)) (omega (arith, fewer)))
+
+  module _ (two : n ≡ 1 → ⊥) (at : ℕ) (p : at ≡ count (take slot (present bits))) (x : ℕ) where
+    some-left : 0 < count (set (present bits) slot false)
+    some-left = omega (arith, fewer, place-lt (present bits) slot (sym q ∙ t))
+
+    at-first : head (erase slot (entries a)) ≡ some (take-out at (itemAt a) 0)
+    at-first = ap head left ∙ head-pack (set (present bits) slot false) (take-out (count (take slot (present bits))) (itemAt a)) some-left ∙ rw (← p)
+
+    pub other-second : at ≡ 0 → x ≡ itemAt a 1 → Item x ≡ got (head (erase slot (entries a)))
+    other-second z i = rw (at-first, z, i)
+
+    pub other-first : (at ≡ 0 → ⊥) → x ≡ itemAt a 0 → Item x ≡ got (head (erase slot (entries a)))
+    other-first z i = rw at-first (go at z)
+      where
+        go : (m : ℕ) → (m ≡ 0 → ⊥) → Item x ≡ got (some (take-out m (itemAt a) 0))
+        go zero z = absurd (z refl)
+        go (suc m) z = ap Item i
 
 -- ---- a slot
 

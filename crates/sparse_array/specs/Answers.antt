@@ -1,5 +1,6 @@
 -- What each function answers, by the (slot, item) list, and document 01's number for each case of an answer.
 -- A writing function's record has its answer and the bytes at exit, so that any two outcomes that it allows are equal.
+-- Assumes nothing.
 use Prim.Native.Nat.{ℕ}
 use mathlib.Core.Path.{_≡_}
 use mathlib.Core.Bool.{Bool, true, false, cond}

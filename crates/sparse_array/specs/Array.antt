@@ -1,10 +1,11 @@
 -- A sparse array in 55 bytes: a bitmap of 4 bytes, then room for 17 items of 3 bytes, of which the first stand packed.
 -- Only the 17 low digits of the bitmap count: the others mean nothing, and a store of a new bitmap makes them 0.
 -- `entries` is what the bytes mean. Below it stands what each writing function leaves, byte by byte, on any bytes.
+-- Assumes nothing.
 use Prim.Native.Nat.{ℕ, _+_, _-_, _*_, _%_}
 use mathlib.Core.Bool.{Bool, true, false, cond}
 use mathlib.Core.List.{List}
-use lib.Dec.{leb, eqb}
+use lib.Dec.{leb}
 use lib.ListN.{getD, set, take}
 use Rattle.fields.specs.Part.{part, splice}
 use Rattle.fields.specs.Number.{little, littleBytes}

@@ -1,4 +1,5 @@
 -- A number's binary digits as a list, the lowest first: the list is what a bitmap means.
+-- Assumes nothing.
 use Prim.Native.Nat.{ℕ, zero, suc, _*_, _/_, _%_}
 use mathlib.Core.Bool.{Bool, true, false}
 use mathlib.Core.List.{List, [], _∷_}

@@ -1,9 +1,10 @@
 -- A sparse array as a list of (slot, item), slots rising, and what the operations mean on it.
+-- Assumes nothing.
 use Prim.Native.Nat.{ℕ, suc, _≤_, _<_}
 use mathlib.Core.Bool.{Bool, true, false, cond}
 use mathlib.Core.Option.{Option, none, some}
 use mathlib.Core.List.{List, [], _∷_, map}
-use lib.Dec.{eqb, ltb}
+use lib.Dec.{eqb, leb, ltb}
 
 abbrev pub Entry : Type 0
 Entry = ℕ × ℕ

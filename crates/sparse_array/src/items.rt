@@ -30,7 +30,7 @@ pub fn item(s: &[u8], at: usize) -> u32
 }
 
 pub fn put_item(s: &mut [u8], at: usize, value: u32)
-    requires { ⌜ (length (now s) ≡ size) × ((at ≤ 16) × (value < 16777216)) ⌝ }
+    requires { ⌜ (length (now s) ≡ size) × (at ≤ 16) ⌝ }
     ensures { λ _. ⌜ now (s .exit) ≡ withItem (now (s .entry)) at value ⌝ }
 {
     write3(s, 4 + 3 * at, value);

@@ -16,11 +16,9 @@ use items::open;
 use items::put_bitmap;
 use items::put_item;
 ghost use mathlib.Core.Path.{_≡_};
-ghost use mathlib.Core.Bool.{cond, true, false};
-ghost use Prim.Native.Nat.{_<_};
 ghost use lib.Dec.{eqb};
 ghost use lib.ListN.{length};
-ghost use Rattle.sparse_array.specs.Entries.{lookup, head as headOf};
+ghost use Rattle.sparse_array.specs.Entries.{lookup, erase, head as headOf};
 ghost use Rattle.sparse_array.specs.Array.{size, entries, cleared};
 ghost use Rattle.sparse_array.specs.Answers.{got, gotOrHead, here, placed, WasSet, WasRemoved, WasPopped};
 
@@ -108,7 +106,7 @@ pub fn get_or_head(s: &[u8], slot: u8) -> Got
 
 // An item put at a slot: a new one goes in between, and the later items move up.
 pub fn set(s: &mut [u8], slot: u8, value: u32) -> Put
-    requires { ⌜ (length (now s) ≡ size) × (value < 16777216) ⌝ }
+    requires { ⌜ length (now s) ≡ size ⌝ }
     ensures { λ r. ⌜ WasSet slot value (now (s .entry)) (now (s .exit)) r ⌝ }
 {
     if slot > 16 {
@@ -144,6 +142,27 @@ pub fn remove(s: &mut [u8], slot: u8) -> Removed
         return Removed::Done;
     }
     Removed::Absent
+}
+
+// The item of the lowest present slot but for one: what is left of two slots once one is taken out.
+pub fn head_without(s: &[u8], slot: u8) -> Got
+    requires { ⌜ length (now s) ≡ size ⌝ }
+    ensures { λ r. ⌜ r ≡ got (headOf (erase slot (entries (now (s .entry))))) ⌝ }
+{
+    if slot > 16 {
+        return head(s);
+    }
+    let bits = bitmap(s);
+    if present(bits, slot) {
+        if count(bits) == 1 {
+            return Got::Absent;
+        }
+        if place(bits, slot) == 0 {
+            return Got::Item(item(s, 1));
+        }
+        return Got::Item(item(s, 0));
+    }
+    head(s)
 }
 
 // The item of the lowest present slot.

@@ -1,5 +1,4 @@
 -- `fields::little::write3` meets its contract: the three stores are the number's bytes, by `stored-three`. Assumes nothing.
-use Prim.Native.Nat.{_<_}
 use native.Mathlib.Omega.{arith}
 use lib.ListN.{length-set}
 use Rattle.fields.proofs.NumberLaws.{stored-three}
@@ -35,7 +34,7 @@ same-length : tie.Need-same-length
 same-length c = search needs
 
 returns : tie.Need-returns
-returns c = let h : c .args .value < 16777216 = omega arith in rw stored-three
+returns c = rw stored-three
 
 pub write3-spec : {M : Type 1} → statement M
 write3-spec =
