@@ -33,10 +33,11 @@ value-little (suc w) v h =
     let q : v / 256 < 256 ^ w = omega (arith, rw pow-suc at h) in
     rw (value-little w (v / 256) q) (omega arith)
 
-pub value-below : (w : ℕ) (xs : List ℕ) (at : ℕ) → ((i : ℕ) → getD xs i 0 < 256) → value (bytesAt w xs at) < 256 ^ w
+pub value-below : (w : ℕ) (xs : List ℕ) (at : ℕ) → ((i : ℕ) → at ≤ i → i < at + w → getD xs i 0 < 256) → value (bytesAt w xs at) < 256 ^ w
 unfolding value bytesAt
 value-below zero xs at h = omega arith
-value-below (suc w) xs at h = rw pow-suc (omega (arith, value-below w xs (suc at) h, h at))
+value-below (suc w) xs at h =
+    rw pow-suc (omega (arith, value-below w xs (suc at) (λ i l m. h i (omega arith) (omega arith)), h at (omega arith) (omega arith)))
 
 -- ---- the bytes at a place
 
@@ -110,7 +111,7 @@ pub little-agree : (w : ℕ) (xs ys : List ℕ) (a b : ℕ) → ((i : ℕ) → i
 unfolding little
 little-agree w xs ys a b h = rw (bytes-agree w xs ys a b h)
 
-pub little-below : (w : ℕ) (xs : List ℕ) (at : ℕ) → ((i : ℕ) → getD xs i 0 < 256) → little w xs at < 256 ^ w
+pub little-below : (w : ℕ) (xs : List ℕ) (at : ℕ) → ((i : ℕ) → at ≤ i → i < at + w → getD xs i 0 < 256) → little w xs at < 256 ^ w
 unfolding little
 little-below w xs at h = value-below w xs at h
 

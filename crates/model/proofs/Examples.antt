@@ -1,6 +1,6 @@
 -- The reader's definitions, tried on worked examples: each equation is computed.
 -- Assumes nothing.
-use Prim.Native.Nat.{ℕ, _*_, Ordering·lt, Ordering·eq, Ordering·gt, _≤_}
+use Prim.Native.Nat.{ℕ, _+_, _*_, Ordering·lt, Ordering·eq, Ordering·gt, _≤_}
 use mathlib.Core.Path.{_≡_, refl}
 use mathlib.Core.Bool.{true, false}
 use mathlib.Core.List.{List, [], _∷_, map}
@@ -8,7 +8,7 @@ use mathlib.Core.Option.{none, some}
 use lib.ListN.{replicate, length}
 use native.Mathlib.Omega.{arith}
 use Rattle.model.specs.Key.{keyLimit, order, startsWith, Bytes, IsKey}
-use Rattle.model.specs.Numbers.{capacityOf, leastSize, blockSize, entryLimit, used}
+use Rattle.model.specs.Numbers.{valueBound, capacityOf, leastSize, blockSize, limitBound, pageLimit, entryLimit, used}
 use Rattle.model.specs.Answers.{DONE, REPLACED, STORE, KEY, HEIGHT, FULL, ABSENT, COUNT, ROOM, number}
 use Rattle.model.specs.Map.{Entry, lookup, put, del, Rising}
 use Rattle.model.specs.Nibble.{nibble, critical, Agree}
@@ -53,6 +53,10 @@ pub sizes-tried :
     (keyLimit ≡ 64) × (blockSize ≡ 128) × (leastSize ≡ 256) × (entryLimit ≡ 74) × (2 * keyLimit ≡ 128)
     × (map capacityOf (255 ∷ 256 ∷ 383 ∷ 384 ∷ 65536 ∷ 2097280 ∷ 9999999 ∷ []) ≡ 0 ∷ 1 ∷ 1 ∷ 2 ∷ 511 ∷ 16384 ∷ 16384 ∷ []) × (used (replicate 400 0) ≡ 128 * 3)
 sizes-tried = (refl, refl, refl, refl, refl, refl, refl)
+
+-- "Value: any unsigned 32-bit number", "Height limit: 0 to 65,535", "Page: 1 to 256 entries", "any bytes": the greatest of each is in, and the next is not.
+pub bounds-tried : (valueBound ≡ 4294967295 + 1) × (limitBound ≡ 65535 + 1) × (pageLimit ≡ 256) × Bytes (0 ∷ 255 ∷ []) × (Bytes (256 ∷ []) → ⊥)
+bounds-tried = (refl, refl, refl, (omega arith, (omega arith, tt)), λ h. omega (arith, h .0))
 
 -- A map of `a`, `ab` and `b`.
 abbrev m : List Entry

@@ -16,14 +16,10 @@ use Rattle.sparse_array.specs.Array.{entries}
 use Rattle.node.specs.Layout.{last, freeSize, start, Room}
 use Rattle.node.specs.Leaf.{Leaf, leafIn}
 use Rattle.node.specs.Branch.{arrayIn, childrenIn}
-use Rattle.node.specs.Chain.{Kind, leaves, branches, taken}
+use Rattle.node.specs.Chain.{Kind, Free, leaves, branches, taken}
 use Rattle.node.specs.declared.header.Header.{Header}
 use Rattle.node.proofs.HeaderLaws.{block-in}
 use Rattle.node.proofs.RecordLaws.{leaf-freed, freed-size, freed-next, branch-freed, children-freed, after-freed}
-
--- record n of a kind is one of the store's, and marked as free
-abbrev pub Free : Kind → List ℕ → ℕ → ℕ → Type 0
-Free K st cap n = (n < cap) × (K .isFree st n ≡ true)
 
 -- from x on goes the chain xs of free records of a kind
 abbrev pub ChainIn : Kind → List ℕ → (cap x : ℕ) → List ℕ → Type 0

@@ -17,13 +17,13 @@ use Rattle.node.specs.Layout.{last, freeSize, start, Room}
 use Rattle.node.specs.Header.{magic, markIn, setHead, setMark, headOf, headIn}
 use Rattle.node.specs.Leaf.{Leaf, leafIn}
 use Rattle.node.specs.Branch.{arrayIn, childrenIn}
-use Rattle.node.specs.Chain.{Kind, leaves, branches}
+use Rattle.node.specs.Chain.{Kind, Free, leaves, branches}
 use Rattle.node.specs.Create.{madeNumber, madeOf, nextAfter, freedBelow, newHead, created, Created}
 use Rattle.node.specs.declared.create.Made.{Made}
 use Rattle.node.specs.declared.header.Head.the-variants.{Good}
 use Rattle.node.proofs.RecordLaws.{leaf-freed, branch-freed}
 use Rattle.node.proofs.HeaderLaws.{Fits, Right, right-good, head-back, length-head, mark-stays, leaf-stays, array-stays, past-stays, length-mark, mark-back, leaf-past-mark, array-past-mark, past-mark, blocks-fit, block-in, few}
-use Rattle.node.proofs.ChainLaws.{Free, ChainIn, Lawful, leaves-lawful, branches-lawful}
+use Rattle.node.proofs.ChainLaws.{ChainIn, Lawful, leaves-lawful, branches-lawful}
 
 -- record r of both kinds is free, with x after it
 pub record FreeBoth (st : List ℕ) (r x : ℕ) : Type 0 where

@@ -3,6 +3,7 @@ use mathlib.Core.Path.{_≡_, refl, ap, sym, _∙_}
 use mathlib.Core.Logic.{inl, inr}
 use mathlib.Core.List.{List, [], _∷_}
 use Prim.Native.Nat.{ℕ, _+_, _*_, _%_, _≤_, _<_, min}
+use native.Mathlib.Decide.{ℕ-discrete}
 use native.Mathlib.Omega.{arith}
 use borrow.Author.Tests.{le-leb, le-ltb, ne-eqb}
 use lib.ListN.{length, getD, drop}
@@ -19,20 +20,13 @@ use Rattle.sparse_array.proofs.ItemLaws.{length-bitmap, bitmap-new}
 use Rattle.sparse_array.proofs.ArrayLaws.{set-means, remove-means, clear-means, empty, length-set-bytes, length-remove-bytes}
 use Rattle.node.specs.Layout.{start, arrayAt, sizeAt, valueAt, freeSize, Room}
 use Rattle.node.specs.Child.{itemOf, numberIn}
-use Rattle.node.specs.Leaf.{Leaf, keySize, leafIn, setLeaf, setValue, freeLeaf}
+use Rattle.node.specs.Leaf.{Leaf, Is, keySize, leafIn, setLeaf, setValue, freeLeaf}
 use Rattle.node.specs.Branch.{arrayIn, childrenIn, afterIn, setArray, setChild, removeChild, twoSlots, makeBranch, freeBranch}
 use Rattle.node.specs.declared.child.Link.{Link}
 use Rattle.node.proofs.ChildLaws.{item-fits}
 use Rattle.node.proofs.Frames.{OtherBlocks, others, others-then, leaf-kept, array-kept}
 
 -- ---- leaf records
-
--- leaf record n is that of a key with its value
-pub record Is (x : Leaf) (k : List ℕ) (v : ℕ) : Type 0 where
-  pub fits : length k ≤ keyLimit
-  pub size : x .size ≡ length k
-  pub key : x .key ≡ k
-  pub value : x .value ≡ v
 
 -- of a write into leaf record n
 pub record LeafWritten (n : ℕ) (st st′ : List ℕ) : Type 0 where
@@ -195,3 +189,19 @@ module _ (st : List ℕ) (n : ℕ) (room : Room st n) where
 
   pub after-freed : (x : ℕ) → x < 65536 → afterIn (freeBranch st n x) n ≡ x
   after-freed x f = ap (λ (b : List ℕ). little 2 b 4) (branch-freed x .array) ∙ little-same 2 (cleared (arrayIn st n)) 4 x (omega (arith, length-cleared)) f
+
+-- ---- every record of the other kind, and what is past the last block, stays
+
+pub leaf-arrays : {n : ℕ} {st st′ : List ℕ} → LeafWritten n st st′ → (m : ℕ) → arrayIn st′ m ≡ arrayIn st m
+leaf-arrays {n} {st} {st′} w m = go (ℕ-discrete m n)
+  where
+    go : Dec (m ≡ n) → arrayIn st′ m ≡ arrayIn st m
+    go (yes e) = rw e (w .array)
+    go (no ne) = w .others .arrays m ne
+
+pub array-leaves : {n : ℕ} {b st st′ : List ℕ} → ArrayWritten n b st st′ → (m : ℕ) → leafIn st′ m ≡ leafIn st m
+array-leaves {n} {b} {st} {st′} w m = go (ℕ-discrete m n)
+  where
+    go : Dec (m ≡ n) → leafIn st′ m ≡ leafIn st m
+    go (yes e) = rw e (w .leaf)
+    go (no ne) = w .others .leaves m ne

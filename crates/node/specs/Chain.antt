@@ -1,8 +1,9 @@
 -- The free records of each kind: how a free record looks, what taking the first one and giving one back do to the bytes and to the header's numbers.
 -- A `Kind` has what differs between leaves and branches, so that what holds of both is said once.
 -- Assumes nothing.
-use Prim.Native.Nat.{ℕ, _+_, _-_}
-use mathlib.Core.Bool.{Bool, cond, _&&_}
+use Prim.Native.Nat.{ℕ, _+_, _-_, _<_}
+use mathlib.Core.Path.{_≡_}
+use mathlib.Core.Bool.{Bool, true, cond, _&&_}
 use mathlib.Core.List.{List}
 use mathlib.Core.Option.{Option, none, some}
 use lib.Dec.{ltb, eqb}
@@ -48,6 +49,10 @@ branches = record {
   used = λ h. h .branches;
   with = λ h f u. header (h .capacity) (h .limit) (h .leaves) u (h .root) (h .leaf) f;
 }
+
+-- record n of a kind is one of the store's, and marked as free
+abbrev pub Free : Kind → List ℕ → (capacity n : ℕ) → Type 0
+Free K st cap n = (n < cap) × (K .isFree st n ≡ true)
 
 -- the first free record, and the header once it is taken: if its number is one of the store's, fewer are in use than there are, and it is marked as free
 abbrev pub taken : Kind → List ℕ → Header → Option (ℕ × Header)

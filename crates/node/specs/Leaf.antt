@@ -1,6 +1,7 @@
 -- Leaf records: what the bytes of block n say of leaf n, and the store with another leaf there.
 -- Assumes nothing.
-use Prim.Native.Nat.{ℕ, min}
+use Prim.Native.Nat.{ℕ, _≤_, min}
+use mathlib.Core.Path.{_≡_}
 use mathlib.Core.List.{List, [], _∷_}
 use lib.ListN.{length, getD}
 use Rattle.model.specs.Key.{keyLimit}
@@ -26,6 +27,13 @@ leafIn st n = record {
   value = little 4 st (valueAt n);
   next = little 2 st (valueAt n);
 }
+
+-- a leaf record is that of a key with its value
+pub record Is (x : Leaf) (k : List ℕ) (v : ℕ) : Type 0 where
+  pub fits : length k ≤ keyLimit
+  pub size : x .size ≡ length k
+  pub key : x .key ≡ k
+  pub value : x .value ≡ v
 
 -- the length, the value, and the key over the first of the key bytes
 unfoldable pub setLeaf : List ℕ → ℕ → List ℕ → ℕ → List ℕ

@@ -17,10 +17,11 @@ ghost use Rattle.node.specs.Child.{numberIn};
 ghost use Rattle.node.specs.Branch.{arrayIn, childrenIn, linkedGot, linkedIn, nearIn, headLink, setChild, removeChild, twoSlots, makeBranch};
 
 // The record's array, as a part of the store.
-pub fn array(store: &[u8], n: u16) -> &[u8]
-    requires { ⌜ Room (now store) n ⌝ }
-    ensures { λ r. ⌜ (now r ≡ arrayIn (now (store .entry)) n) × (length (now r) ≡ arraySize) ⌝ }
+pub fn array(store: &[u8], branch: BranchNo) -> &[u8]
+    requires { ⌜ Room (now store) (branch .0) ⌝ }
+    ensures { λ r. ⌜ (now r ≡ arrayIn (now (store .entry)) (branch .0)) × (length (now r) ≡ arraySize) ⌝ }
 {
+    let n = branch.0;
     let a = array_at(n);
     let e = a + 55;
     &store[a..e]
@@ -41,8 +42,7 @@ pub fn get_child(store: &[u8], branch: BranchNo, slot: u8, capacity: u16) -> Lin
     requires { ⌜ Room (now store) (branch .0) ⌝ }
     ensures { λ r. ⌜ r ≡ linkedIn capacity slot (childrenIn (now (store .entry)) (branch .0)) ⌝ }
 {
-    let n = branch.0;
-    linked(sparse_array::get(array(store, n), slot), capacity)
+    linked(sparse_array::get(array(store, branch), slot), capacity)
 }
 
 // The link of a slot, or of the lowest present slot where that one is missing.
@@ -50,8 +50,10 @@ pub fn get_child_or_head(store: &[u8], branch: BranchNo, slot: u8, capacity: u16
     requires { ⌜ (Room (now store) (branch .0)) × (slot ≤ 16) ⌝ }
     ensures { λ r. ⌜ r ≡ nearIn capacity slot (childrenIn (now (store .entry)) (branch .0)) ⌝ }
 {
-    let n = branch.0;
-    linked(sparse_array::get_or_head(array(store, n), slot), capacity)
+    linked(
+        sparse_array::get_or_head(array(store, branch), slot),
+        capacity,
+    )
 }
 
 // The link of the lowest present slot.
@@ -59,8 +61,7 @@ pub fn head_child(store: &[u8], branch: BranchNo, capacity: u16) -> Linked
     requires { ⌜ Room (now store) (branch .0) ⌝ }
     ensures { λ r. ⌜ r ≡ headLink capacity (childrenIn (now (store .entry)) (branch .0)) ⌝ }
 {
-    let n = branch.0;
-    linked(sparse_array::head(array(store, n)), capacity)
+    linked(sparse_array::head(array(store, branch)), capacity)
 }
 
 // The link of the lowest present slot but for one.
@@ -68,8 +69,10 @@ pub fn other_child(store: &[u8], branch: BranchNo, slot: u8, capacity: u16) -> L
     requires { ⌜ Room (now store) (branch .0) ⌝ }
     ensures { λ r. ⌜ r ≡ headLink capacity (erase slot (childrenIn (now (store .entry)) (branch .0))) ⌝ }
 {
-    let n = branch.0;
-    linked(sparse_array::head_without(array(store, n), slot), capacity)
+    linked(
+        sparse_array::head_without(array(store, branch), slot),
+        capacity,
+    )
 }
 
 // The number of children.
@@ -77,8 +80,7 @@ pub fn child_count(store: &[u8], branch: BranchNo) -> usize
     requires { ⌜ Room (now store) (branch .0) ⌝ }
     ensures { λ r. ⌜ r ≡ length (childrenIn (now (store .entry)) (branch .0)) ⌝ }
 {
-    let n = branch.0;
-    sparse_array::len(array(store, n))
+    sparse_array::len(array(store, branch))
 }
 
 // A link put at a slot.

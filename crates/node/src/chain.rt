@@ -34,34 +34,36 @@ pub enum TakenBranch {
     Nothing,
 }
 
-fn is_free_leaf(store: &[u8], n: u16) -> bool
-    requires { ⌜ Room (now store) n ⌝ }
-    ensures { λ r. ⌜ r ≡ leaves .isFree (now (store .entry)) n ⌝ }
+fn is_free_leaf(store: &[u8], leaf: LeafNo) -> bool
+    requires { ⌜ Room (now store) (leaf .0) ⌝ }
+    ensures { λ r. ⌜ r ≡ leaves .isFree (now (store .entry)) (leaf .0) ⌝ }
 {
+    let n = leaf.0;
     let a = size_at(n);
     store[a] == 255
 }
 
-fn is_free_branch(store: &[u8], n: u16) -> bool
-    requires { ⌜ Room (now store) n ⌝ }
-    ensures { λ r. ⌜ r ≡ branches .isFree (now (store .entry)) n ⌝ }
+fn is_free_branch(store: &[u8], branch: BranchNo) -> bool
+    requires { ⌜ Room (now store) (branch .0) ⌝ }
+    ensures { λ r. ⌜ r ≡ branches .isFree (now (store .entry)) (branch .0) ⌝ }
 {
-    child_count(store, BranchNo(n)) == 0
+    child_count(store, branch) == 0
 }
 
-fn next_leaf(store: &[u8], n: u16) -> u16
-    requires { ⌜ Room (now store) n ⌝ }
-    ensures { λ r. ⌜ r ≡ leaves .next (now (store .entry)) n ⌝ }
+fn next_leaf(store: &[u8], leaf: LeafNo) -> u16
+    requires { ⌜ Room (now store) (leaf .0) ⌝ }
+    ensures { λ r. ⌜ r ≡ leaves .next (now (store .entry)) (leaf .0) ⌝ }
 {
+    let n = leaf.0;
     let a = value_at(n);
     read2(store, a)
 }
 
-fn next_branch(store: &[u8], n: u16) -> u16
-    requires { ⌜ Room (now store) n ⌝ }
-    ensures { λ r. ⌜ r ≡ branches .next (now (store .entry)) n ⌝ }
+fn next_branch(store: &[u8], branch: BranchNo) -> u16
+    requires { ⌜ Room (now store) (branch .0) ⌝ }
+    ensures { λ r. ⌜ r ≡ branches .next (now (store .entry)) (branch .0) ⌝ }
 {
-    read2(array(store, n), 4)
+    read2(array(store, branch), 4)
 }
 
 // The first free leaf. The store stays: the record is in use once the header that is returned is written.
@@ -77,8 +79,8 @@ pub fn take_leaf(store: &[u8], h: Header) -> TakenLeaf
     if h.capacity <= used {
         return TakenLeaf::Nothing;
     }
-    if is_free_leaf(store, n) {
-        let next = next_leaf(store, n);
+    if is_free_leaf(store, LeafNo(n)) {
+        let next = next_leaf(store, LeafNo(n));
         let after = Header {
             capacity: h.capacity,
             limit: h.limit,
@@ -106,8 +108,8 @@ pub fn take_branch(store: &[u8], h: Header) -> TakenBranch
     if h.capacity <= used {
         return TakenBranch::Nothing;
     }
-    if is_free_branch(store, n) {
-        let next = next_branch(store, n);
+    if is_free_branch(store, BranchNo(n)) {
+        let next = next_branch(store, BranchNo(n));
         let after = Header {
             capacity: h.capacity,
             limit: h.limit,
@@ -123,10 +125,11 @@ pub fn take_branch(store: &[u8], h: Header) -> TakenBranch
 }
 
 // A leaf record becomes free, with the number after it.
-pub fn free_leaf(store: &mut [u8], n: u16, next: u16)
-    requires { ⌜ Room (now store) n ⌝ }
-    ensures { λ _. ⌜ now (store .exit) ≡ leaves .freed (now (store .entry)) n next ⌝ }
+pub fn free_leaf(store: &mut [u8], leaf: LeafNo, next: u16)
+    requires { ⌜ Room (now store) (leaf .0) ⌝ }
+    ensures { λ _. ⌜ now (store .exit) ≡ leaves .freed (now (store .entry)) (leaf .0) next ⌝ }
 {
+    let n = leaf.0;
     let t = size_at(n);
     write1(store, t, 255);
     let v = value_at(n);
@@ -143,10 +146,11 @@ fn empty_array(s: &mut [u8], next: u16)
 }
 
 // A branch record becomes free.
-pub fn free_branch(store: &mut [u8], n: u16, next: u16)
-    requires { ⌜ Room (now store) n ⌝ }
-    ensures { λ _. ⌜ now (store .exit) ≡ branches .freed (now (store .entry)) n next ⌝ }
+pub fn free_branch(store: &mut [u8], branch: BranchNo, next: u16)
+    requires { ⌜ Room (now store) (branch .0) ⌝ }
+    ensures { λ _. ⌜ now (store .exit) ≡ branches .freed (now (store .entry)) (branch .0) next ⌝ }
 {
+    let n = branch.0;
     let a = array_at(n);
     let e = a + 55;
     empty_array(&mut store[a..e], next);
@@ -166,7 +170,7 @@ pub fn give_leaf(store: &mut [u8], h: Header, leaf: LeafNo) -> Header
     ensures head { λ r. ⌜ r ≡ gaveLeaf h (leaf .0) ⌝ }
 {
     let n = leaf.0;
-    free_leaf(store, n, h.leaf);
+    free_leaf(store, leaf, h.leaf);
     Header {
         capacity: h.capacity,
         limit: h.limit,
@@ -185,7 +189,7 @@ pub fn give_branch(store: &mut [u8], h: Header, branch: BranchNo) -> Header
     ensures head { λ r. ⌜ r ≡ gaveBranch h (branch .0) ⌝ }
 {
     let n = branch.0;
-    free_branch(store, n, h.branch);
+    free_branch(store, branch, h.branch);
     Header {
         capacity: h.capacity,
         limit: h.limit,

@@ -1,6 +1,8 @@
 // A new, empty store: a header, and every record of both kinds free, in the order of their numbers.
 use crate::chain::free_branch;
 use crate::chain::free_leaf;
+use crate::child::BranchNo;
+use crate::child::LeafNo;
 use crate::header::Header;
 use crate::header::put_head;
 use crate::header::put_mark;
@@ -42,8 +44,8 @@ fn free_all(store: &mut [u8], capacity: u16)
     let mut r: u16 = 0;
     while r < capacity {
         let next = next_after(r, capacity);
-        free_leaf(store, r, next);
-        free_branch(store, r, next);
+        free_leaf(store, LeafNo(r), next);
+        free_branch(store, BranchNo(r), next);
         r += 1;
     }
 }

@@ -3,7 +3,7 @@
 use mathlib.Core.Path.{refl}
 use Rattle.model.specs.Key.{order}
 use Rattle.model.specs.Nibble.{nibble, critical}
-use Rattle.promises.specs.Cases.{cases, slips, sizes, AllHold}
+use Rattle.promises.specs.Cases.{cases, slips, ends, sizes, AllHold}
 
 -- C1 to C12, of which C5 and C7 take two rows each.
 pub cases-hold : AllHold cases
@@ -13,6 +13,10 @@ cases-hold = (refl, (refl, (refl, (refl, (refl, (refl, (refl, (refl, (refl, (ref
 pub slips-hold : AllHold slips
 unfolding nibble order critical
 slips-hold = (refl, (refl, (refl, (refl, (refl, (refl, (refl, (refl, (refl, (refl, (refl, tt)))))))))))
+
+pub ends-hold : AllHold ends
+unfolding nibble order critical
+ends-hold = (refl, (refl, (refl, (refl, (refl, (refl, (refl, tt)))))))
 
 pub sizes-hold : AllHold sizes
 sizes-hold = (refl, (refl, tt))

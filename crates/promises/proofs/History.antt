@@ -15,9 +15,10 @@ use Rattle.model.specs.Picture.{tooLong, refusesHeight, pictureOf}
 use Rattle.model.proofs.Less.{Sorted}
 use Rattle.model.proofs.MapLaws.{put-sorted, del-sorted, length-put, length-del, extra}
 use Rattle.promises.specs.Meaning.{Meaning, Layout, Lawful, Means, Reply}
-use Rattle.promises.specs.Says.{unless, putAnswer, storedAnswer, withMap, empty}
+use Rattle.promises.specs.Says.{unless, putAnswer, storedAnswer, withMap, empty, pageSays}
 use Rattle.promises.specs.History.{Call, insert, overwrite, remove, setLimit, get, isEmpty, next, isNew, isRemoval, news, removals, Counted, page, after, reply, told, Keeps, Made, Run, last, heard}
 use Rattle.promises.proofs.MeansOne.{means-one}
+use Rattle.promises.proofs.Determined.{page-promise}
 
 -- One call: the map stays sorted, and its length changes by what the answer says.
 record Step (m n : Meaning) (plus minus : ℕ) : Type 0 where
@@ -100,7 +101,9 @@ module _ (L : Layout) where
   kept-reply (setLimit l) st st′ r m h p = p .answers m h
   kept-reply (get k) st st′ r m h p = p .1 .answers m h
   kept-reply isEmpty st st′ r m h p = p .1 .answers m h
-  kept-reply (page q mode from n z) st st′ r m h p = p .1 .3 .answers m h
+  kept-reply (page q mode from n z) st st′ r m h p =
+      page-promise L q mode from n st (p .1 .0) (p .1 .1) r (p .1 .3) .answers m h
+      ∙ ap (λ (x : ℕ). pageSays (record { prefix = q; mode = mode; from = from; size = n; room = x }) m .reply) (p .1 .2)
 
   -- A run of them.
   pub run-means : (st : List ℕ) (ds : List Made) (m : Meaning) → Means L st m → Run L st ds → Means L (last st ds) (after (calls ds) m)

@@ -1,3 +1,4 @@
+pub mod BytesLaws
 pub mod MeansOne
 pub mod Determined
 pub mod EntryOne
@@ -7,6 +8,8 @@ pub mod Session
 pub mod WrongPrograms
 pub mod Bridge
 pub mod Possible
+pub mod Coding
+pub mod Reference
 pub mod History
 pub mod CasesHold
 pub mod RustInsert

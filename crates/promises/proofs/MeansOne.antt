@@ -1,12 +1,12 @@
--- A store has one meaning at most, and it is a map: sorted, of keys, of 32-bit values, no more than the capacity.
+-- A store has one meaning at most, and it is a map: sorted, of keys, of 32-bit values, no more than the capacity; with a limit of 16 bits.
 -- Assumes nothing.
-use Prim.Native.Nat.{ℕ, _≤_}
+use Prim.Native.Nat.{ℕ, _≤_, _<_}
 use mathlib.Core.Path.{_≡_, sym, _∙_, ap, subst}
 use mathlib.Core.List.{List}
 use native.Mathlib.Omega.{arith}
 use lib.ListN.{length}
 use Rattle.model.specs.Key.{IsKey}
-use Rattle.model.specs.Numbers.{Values}
+use Rattle.model.specs.Numbers.{Values, limitBound}
 use Rattle.model.specs.Map.{Entry, All, Rising}
 use Rattle.model.proofs.Less.{Sorted}
 use Rattle.model.proofs.OrderedMap.{sorted-rising}
@@ -38,3 +38,7 @@ map-values law st m a = subst Values (a .map) (law .values st (a .tree) (a .acce
 
 pub map-fits : {L : Layout} → Lawful L → (st : List ℕ) (m : Meaning) → Means L st m → length (m .map) ≤ m .capacity
 map-fits law st m a = omega (arith, law .fits st (a .tree) (a .accepted), ap (length {A = Entry}) (a .map), a .capacity)
+
+-- "Height limit: 0 to 65,535"
+pub limit-bound : {L : Layout} → Lawful L → (st : List ℕ) (m : Meaning) → Means L st m → m .limit < limitBound
+limit-bound law st m a = omega (arith, law .limited st (a .tree) (a .accepted), a .limit)

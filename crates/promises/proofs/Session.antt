@@ -1,4 +1,4 @@
--- Demand 3 for calls that keep the page promise: what their bytes show is what the pages of the moments give.
+-- Demand 3 for `first_page` and `next_page` calls that keep their promises: what their bytes show is what the pages of the moments give.
 -- Assumes nothing.
 use Prim.Native.Nat.{ℕ, zero, suc, _*_, _≤_}
 use mathlib.Core.Path.{_≡_, refl, sym, _∙_, ap, subst}
@@ -16,11 +16,13 @@ use Rattle.model.specs.Entry.{entriesBytes}
 use Rattle.model.proofs.Less.{Sorted}
 use Rattle.promises.specs.Meaning.{Layout, Lawful, Reply, alone}
 use Rattle.promises.specs.Says.{Asked, PageSays, pageSays, pageGiven, pageOf, pageAnswer, unless, fromTooLong, badCount}
+use Rattle.promises.specs.Promises.{Pages}
 use Rattle.promises.specs.Moments.{onward, fetch, UntilEnd, Always, FullBefore, Listed}
 use Rattle.promises.specs.Session.{Step, Fetched, Session, momentsOf, pagesOf, SomeBefore}
 use Rattle.promises.proofs.MeansOne.{map-sorted}
 use Rattle.promises.proofs.EntryOne.{shows-one}
 use Rattle.promises.proofs.Listing.{listed}
+use Rattle.promises.proofs.Determined.{page-promise}
 
 -- An answer 0 to a page is the page itself.
 given : (p q : PageSays) (a : Answer) → p .reply .answer ≡ number a → unless a p q .reply .answer ≡ 0 → unless a p q ≡ q
@@ -38,6 +40,11 @@ module _ (L : Layout) (law : Lawful L) (mode : Mode) (q : List ℕ) where
   asked : From → Step → Asked
   asked from s = record { prefix = q; mode = mode; from = from; size = s .size; room = length (s .out) }
 
+  -- the call for its place keeps the page promise
+  promised : (from : From) (s : Step) → Fetched L mode q from s → Pages L (asked from s) (s .store) (s .out) (s .out′) (s .reply)
+  unfolding asked
+  promised from s f = page-promise L q mode from (s .size) (s .store) (s .out) (s .out′) (s .reply) (f .promise)
+
   -- the page that the promise gives, its end mark and its entries
   fetched-page : (from : From) (s : Step) → Fetched L mode q from s
       → _≡_ {A = Page} (record { entries = s .given; end = s .reply .end }) (page mode q from (s .size) (s .meaning .map))
@@ -50,14 +57,14 @@ module _ (L : Layout) (law : Lawful L) (mode : Mode) (q : List ℕ) where
       says : pageSays (asked from s) (s .meaning) ≡ pageGiven p
       says =
           given (record { reply = alone (pageAnswer (asked from s)); bytes = [] }) (pageGiven p) (pageAnswer (asked from s)) refl
-          (ap (λ (r : Reply). r .answer) (sym (f .promise .answers (s .meaning) (f .means))) ∙ f .done)
+          (ap (λ (r : Reply). r .answer) (sym (promised from s f .answers (s .meaning) (f .means))) ∙ f .done)
 
       answer : s .reply ≡ pageGiven p .reply
-      answer = f .promise .answers (s .meaning) (f .means) ∙ ap (λ (z : PageSays). z .reply) says
+      answer = promised from s f .answers (s .meaning) (f .means) ∙ ap (λ (z : PageSays). z .reply) says
 
       output : s .out′ ≡ entriesBytes (p .entries) ++ drop (length (entriesBytes (p .entries))) (s .out)
       output =
-          f .promise .output (s .meaning) (f .means)
+          promised from s f .output (s .meaning) (f .means)
           ∙ ap (λ (z : PageSays). z .bytes ++ drop (length (z .bytes)) (s .out)) says
 
       shown : s .given ≡ p .entries
@@ -95,7 +102,7 @@ module _ (L : Layout) (law : Lawful L) (mode : Mode) (q : List ℕ) where
       go : (n : ℕ) → s .size ≡ n → 1 ≤ s .size
       go zero e =
           absurd (refused (tooLong q || fromTooLong from) (ap (λ (z : ℕ). eqb z 0) e)
-          (ap (λ (r : Reply). r .answer) (sym (f .promise .answers (s .meaning) (f .means))) ∙ f .done))
+          (ap (λ (r : Reply). r .answer) (sym (promised from s f .answers (s .meaning) (f .means))) ∙ f .done))
         where
           refused : (k : Bool) → eqb (s .size) 0 ≡ true
               → unless (pick k KEY (pick (badCount (asked from s)) COUNT DONE)) (record { reply = alone (pick k KEY (pick (badCount (asked from s)) COUNT DONE)); bytes = [] }) (pageGiven (pageOf (asked from s) (s .meaning))) .reply .answer ≡ 0

@@ -1,48 +1,45 @@
--- The wrong programs that document 01 names ("How the promises are read"): no program that keeps the promises is one of them.
+-- The wrong programs that document 01 names ("How the promises are read"): no program that keeps the promises is one of them. A wrong program is supposed to be wrong
+-- only on what its types let in. (That there are programs that keep the promises is proved in Reference.)
 -- Assumes nothing.
 use Prim.Native.Nat.{ℕ, _≤_, _<_, _+_, _*_}
 use mathlib.Core.Path.{_≡_, ap, subst}
 use mathlib.Core.List.{List, [], _∷_}
 use native.Mathlib.Omega.{arith}
-use lib.ListN.{length, replicate}
+use lib.ListN.{length, replicate, length-replicate}
 use Rattle.model.specs.Key.{order}
 use Rattle.model.specs.Numbers.{valueBound, limitBound, entryLimit, headerSize, blockSize}
 use Rattle.model.specs.Nibble.{nibble, critical}
 use Rattle.model.specs.Page.{Mode, inclusive}
 use Rattle.promises.specs.Meaning.{Layout, Lawful, Meaning, Means, Reply}
 use Rattle.promises.specs.Says.{empty, withMap}
-use Rattle.promises.specs.Promises.{Create, Insert, Get, FirstPage, NextPage}
+use Rattle.promises.specs.Programs.{Slice, Programs}
+use Rattle.promises.proofs.BytesLaws.{zero-bytes}
 use Rattle.promises.proofs.MeansOne.{means-one}
-
--- what a run of a program leaves: the lent bytes, and the answer
-pub record Ran : Type 0 where
-  pub bytes : List ℕ
-  pub reply : Reply
-
--- A set of programs that keep their promises.
-pub record Programs (L : Layout) : Type 0 where
-  pub create : (limit : ℕ) (st : List ℕ) → Ran
-  pub insert : (k : List ℕ) (v : ℕ) (st : List ℕ) → Ran
-  pub get : (k st : List ℕ) → Reply
-  pub firstPage : (q : List ℕ) (mode : Mode) (n : ℕ) (st out : List ℕ) → Ran
-  pub nextPage : (q : List ℕ) (mode : Mode) (k : List ℕ) (n : ℕ) (st out : List ℕ) → Ran
-  pub creates : (limit : ℕ) (st : List ℕ) → limit < limitBound → Create L limit st (create limit st .bytes) (create limit st .reply)
-  pub inserts : (k : List ℕ) (v : ℕ) (st : List ℕ) → v < valueBound → Insert L k v st (insert k v st .bytes) (insert k v st .reply)
-  pub gets : (k st : List ℕ) → Get L k st (get k st)
-  pub firsts : (q : List ℕ) (mode : Mode) (n : ℕ) (st out : List ℕ)
-      → FirstPage L q mode n st out (firstPage q mode n st out .bytes) (firstPage q mode n st out .reply)
-  pub nexts : (q : List ℕ) (mode : Mode) (k : List ℕ) (n : ℕ) (st out : List ℕ)
-      → NextPage L q mode k n st out (nextPage q mode k n st out .bytes) (nextPage q mode k n st out .reply)
 
 -- a slice for two keys, an output for one entry, and a key
 slice : List ℕ
 slice = replicate (headerSize + 2 * blockSize) 0
 
+slice-lent : Slice slice
+unfolding slice
+slice-lent = record { bytes = zero-bytes (headerSize + 2 * blockSize); size = omega (arith, length-replicate {A = ℕ} (headerSize + 2 * blockSize) 0) }
+
 output : List ℕ
 output = replicate entryLimit 0
 
+output-lent : Slice output
+unfolding output
+output-lent = record { bytes = zero-bytes entryLimit; size = omega (arith, length-replicate {A = ℕ} entryLimit 0) }
+
 x : List ℕ
 x = 0x78 ∷ []
+
+x-lent : Slice x
+unfolding x
+x-lent = record { bytes = (omega arith, tt); size = omega arith }
+
+nothing-lent : Slice []
+nothing-lent = record { bytes = tt; size = omega arith }
 
 -- the map of the empty key and x, as far as it is built
 two : Meaning
@@ -60,70 +57,113 @@ module _ (L : Layout) (law : Lawful L) (P : Programs L) where
 
   made-means : Means L made two
   unfolding made slice two
-  made-means = P .creates 7 (replicate (headerSize + 2 * blockSize) 0) (omega arith) .after (omega arith)
+  made-means = P .creates 7 slice (omega arith) slice-lent .after (omega arith)
+
+  made-lent : Slice made
+  unfolding made
+  made-lent = record {
+    bytes = P .create-bytes 7 slice (omega arith) slice-lent;
+    size = omega (arith, P .creates 7 slice (omega arith) slice-lent .kept .size, slice-lent .size);
+  }
 
   filled : ℕ → List ℕ
   filled v = P .insert [] v made .bytes
 
   filled-means : (v : ℕ) → v < valueBound → Means L (filled v) (one-key v)
   unfolding filled one-key two
-  filled-means v h = P .inserts [] v made h .after (empty 7 2) made-means
+  filled-means v h = P .inserts [] v made nothing-lent h made-lent .after (empty 7 2) made-means
+
+  filled-lent : (v : ℕ) → v < valueBound → Slice (filled v)
+  unfolding filled
+  filled-lent v h = record {
+    bytes = P .insert-bytes [] v made nothing-lent h made-lent;
+    size = omega (arith, P .inserts [] v made nothing-lent h made-lent .kept .size, made-lent .size);
+  }
 
   fuller : List ℕ
   fuller = P .insert x 8 (filled 7) .bytes
 
   fuller-means : Means L fuller two-keys
   unfolding fuller two-keys one-key x nibble order critical
-  fuller-means = P .inserts x 8 (filled 7) (omega arith) .after (one-key 7) (filled-means 7 (omega arith))
+  fuller-means = P .inserts x 8 (filled 7) x-lent (omega arith) (filled-lent 7 (omega arith)) .after (one-key 7) (filled-means 7 (omega arith))
+
+  fuller-lent : Slice fuller
+  unfolding fuller
+  fuller-lent = record {
+    bytes = P .insert-bytes x 8 (filled 7) x-lent (omega arith) (filled-lent 7 (omega arith));
+    size = omega (arith, P .inserts x 8 (filled 7) x-lent (omega arith) (filled-lent 7 (omega arith)) .kept .size, filled-lent 7 (omega arith) .size);
+  }
 
   -- a map that refuses all
-  pub refuses-all : ((k : List ℕ) (v : ℕ) (st : List ℕ) → 10 ≤ P .insert k v st .reply .answer) → ⊥
+  pub refuses-all : ((k : List ℕ) (v : ℕ) (st : List ℕ) → Slice k → v < valueBound → Slice st → 10 ≤ P .insert k v st .reply .answer) → ⊥
   unfolding two
-  refuses-all wrong = omega (arith, wrong [] 7 made, ap (λ (r : Reply). r .answer) (P .inserts [] 7 made (omega arith) .answers (empty 7 2) made-means))
+  refuses-all wrong =
+      omega (
+        arith,
+        wrong [] 7 made nothing-lent (omega arith) made-lent,
+        ap (λ (r : Reply). r .answer) (P .inserts [] 7 made nothing-lent (omega arith) made-lent .answers (empty 7 2) made-means),
+      )
 
   -- a get with one fixed value
   value-of : (v : ℕ) → v < valueBound → P .get [] (filled v) .value ≡ v
   unfolding one-key order
-  value-of v h = ap (λ (r : Reply). r .value) (P .gets [] (filled v) .answers (one-key v) (filled-means v h))
+  value-of v h = ap (λ (r : Reply). r .value) (P .gets [] (filled v) nothing-lent (filled-lent v h) .answers (one-key v) (filled-means v h))
 
-  pub fixed-value : (w : ℕ) → ((k st : List ℕ) → P .get k st .value ≡ w) → ⊥
-  fixed-value w wrong = omega (arith, value-of 7 (omega arith), value-of 8 (omega arith), wrong [] (filled 7), wrong [] (filled 8))
-
-  -- an insert that stores nothing
-  pub stores-nothing : ((k : List ℕ) (v : ℕ) (st : List ℕ) → P .insert k v st .bytes ≡ st) → ⊥
-  unfolding filled two one-key
-  stores-nothing wrong =
-      let m : Means L made (one-key 7) = subst (λ (st : List ℕ). Means L st (one-key 7)) (wrong [] 7 made) (filled-means 7 (omega arith)) in
-      omega (arith, ap (λ (n : Meaning). length (n .map)) (means-one law made (empty 7 2) (one-key 7) made-means m))
-
-  -- a page that is always empty with end
-  pub always-empty : ((q : List ℕ) (mode : Mode) (n : ℕ) (st out : List ℕ) → P .firstPage q mode n st out .reply .count ≡ 0) → ⊥
-  unfolding output one-key order
-  always-empty wrong =
+  pub fixed-value : (w : ℕ) → ((k st : List ℕ) → Slice k → Slice st → P .get k st .value ≡ w) → ⊥
+  fixed-value w wrong =
       omega (
         arith,
-        wrong [] inclusive 1 (filled 7) output,
-        ap (λ (r : Reply). r .count) (P .firsts [] inclusive 1 (filled 7) (replicate entryLimit 0) .answers (one-key 7) (filled-means 7 (omega arith))),
+        value-of 7 (omega arith),
+        value-of 8 (omega arith),
+        wrong [] (filled 7) nothing-lent (filled-lent 7 (omega arith)),
+        wrong [] (filled 8) nothing-lent (filled-lent 8 (omega arith)),
       )
 
+  -- an insert that stores nothing
+  pub stores-nothing : ((k : List ℕ) (v : ℕ) (st : List ℕ) → Slice k → v < valueBound → Slice st → P .insert k v st .bytes ≡ st) → ⊥
+  unfolding filled two one-key
+  stores-nothing wrong =
+      let m : Means L made (one-key 7) = subst (λ (st : List ℕ). Means L st (one-key 7)) (wrong [] 7 made nothing-lent (omega arith) made-lent) (filled-means 7 (omega arith)) in
+      omega (arith, ap (λ (n : Meaning). length (n .map)) (means-one law made (empty 7 2) (one-key 7) made-means m))
+
+  -- the count of the first page of one entry, of an empty store and of one with a key
+  first-count : (v : ℕ) → v < valueBound → P .firstPage [] inclusive 1 (filled v) output .reply .count ≡ 1
+  unfolding output one-key order
+  first-count v h =
+      ap (λ (r : Reply). r .count)
+      (P .firsts [] inclusive 1 (filled v) output nothing-lent (omega arith) (filled-lent v h) output-lent .answers (one-key v) (filled-means v h))
+
+  first-none : P .firstPage [] inclusive 1 made output .reply .count ≡ 0
+  unfolding output two order
+  first-none =
+      ap (λ (r : Reply). r .count) (P .firsts [] inclusive 1 made output nothing-lent (omega arith) made-lent output-lent .answers (empty 7 2) made-means)
+
+  -- a page that is always empty with end
+  pub always-empty : ((q : List ℕ) (mode : Mode) (n : ℕ) (st out : List ℕ) → Slice q → n < limitBound → Slice st → Slice out
+      → P .firstPage q mode n st out .reply .count ≡ 0) → ⊥
+  always-empty wrong =
+      omega (arith, wrong [] inclusive 1 (filled 7) output nothing-lent (omega arith) (filled-lent 7 (omega arith)) output-lent, first-count 7 (omega arith))
+
   -- later pages that say end at once
-  pub ends-at-once : ((q : List ℕ) (mode : Mode) (k : List ℕ) (n : ℕ) (st out : List ℕ) → P .nextPage q mode k n st out .reply .count ≡ 0) → ⊥
+  pub ends-at-once : ((q : List ℕ) (mode : Mode) (k : List ℕ) (n : ℕ) (st out : List ℕ) → Slice q → Slice k → n < limitBound → Slice st → Slice out
+      → P .nextPage q mode k n st out .reply .count ≡ 0) → ⊥
   unfolding output two-keys x order
   ends-at-once wrong =
       omega (
         arith,
-        wrong [] inclusive [] 1 fuller output,
-        ap (λ (r : Reply). r .count) (P .nexts [] inclusive [] 1 fuller (replicate entryLimit 0) .answers two-keys fuller-means),
+        wrong [] inclusive [] 1 fuller output nothing-lent nothing-lent (omega arith) fuller-lent output-lent,
+        ap (λ (r : Reply). r .count)
+            (P .nexts [] inclusive [] 1 fuller output nothing-lent nothing-lent (omega arith) fuller-lent output-lent .answers two-keys fuller-means),
       )
 
   -- a page count that is made up: the same whatever is stored
-  pub made-up-count : (c : ℕ) → ((q : List ℕ) (mode : Mode) (n : ℕ) (st out : List ℕ) → P .firstPage q mode n st out .reply .count ≡ c) → ⊥
-  unfolding output two one-key order
+  pub made-up-count : (c : ℕ) → ((q : List ℕ) (mode : Mode) (n : ℕ) (st out : List ℕ) → Slice q → n < limitBound → Slice st → Slice out
+      → P .firstPage q mode n st out .reply .count ≡ c) → ⊥
   made-up-count c wrong =
       omega (
         arith,
-        wrong [] inclusive 1 (filled 7) output,
-        wrong [] inclusive 1 made output,
-        ap (λ (r : Reply). r .count) (P .firsts [] inclusive 1 (filled 7) (replicate entryLimit 0) .answers (one-key 7) (filled-means 7 (omega arith))),
-        ap (λ (r : Reply). r .count) (P .firsts [] inclusive 1 made (replicate entryLimit 0) .answers (empty 7 2) made-means),
+        wrong [] inclusive 1 (filled 7) output nothing-lent (omega arith) (filled-lent 7 (omega arith)) output-lent,
+        wrong [] inclusive 1 made output nothing-lent (omega arith) made-lent output-lent,
+        first-count 7 (omega arith),
+        first-none,
       )

@@ -56,6 +56,8 @@ pub data Label : Type 0 where
   C1 C2 C3 C4 C5 C6 C7 C8 C9 C10 C11 C12 : Label
   -- of the rows that C1 to C12 lack
   worked-entry branch-at-c limit-lowered empty-store key-first count-said after-empty after-any page-ends page-goes-on pages-carry-on : Label
+  -- of the rows at the ends of the ranges
+  greatest-byte greatest-byte-last greatest-value greatest-value-shown greatest-limit : Label
   -- of the rows with numbers that hang on the longest key
   create-sizes output-sizes : Label
 
@@ -181,6 +183,31 @@ slips =
     ∷ row page-goes-on (paged (shown 128 511 c5 [] inclusive start 1)) (paged (1 ∷ 0 ∷ 0 ∷ 2 ∷ 0 ∷ 4 ∷ 0 ∷ 0 ∷ 0 ∷ 9 ∷ [], (1, false)))
     -- pages of an unchanged store, each after the last key given, "a page .. whose first page works and later ones say end at once" shut out
     ∷ row pages-carry-on (listed (fetched 128 511 c5 (1 ∷ 1 ∷ []))) (listed (([], 9) ∷ (a, 7) ∷ []))
+    ∷ []
+
+-- Document 01's ranges at their upper ends.
+abbrev pub ends : List Row
+ends =
+    -- "any bytes", "17 slots, 0 to 16": both nibbles of byte FF are 16, in the last slot
+    row greatest-byte (numbers (map (nibble (0xFF ∷ [])) (0 ∷ 1 ∷ 2 ∷ []))) (numbers (16 ∷ 16 ∷ 0 ∷ []))
+    ∷ row greatest-byte
+    (pictured (picture 128 511 (insert (0xFF ∷ []) 1 ∷ insert (0xF0 ∷ []) 2 ∷ insert (0x0F ∷ []) 3 ∷ [])))
+    (pictured (some (branch 0 0 (kid 1 (leaf 0 (0x0F ∷ []) 3) (kid 16 (branch 0 1 (kid 1 (leaf 0 (0xF0 ∷ []) 2) (kid 16 (leaf 0 (0xFF ∷ []) 1) end))) end)))))
+    -- bytes are compared as unsigned numbers, and "a proper prefix first"
+    ∷ row greatest-byte-last
+    (listed (listing 128 511 (insert (0xFF ∷ 0x00 ∷ []) 1 ∷ insert (0xFF ∷ []) 2 ∷ insert (0x80 ∷ 0xFF ∷ []) 3 ∷ insert (0x7F ∷ []) 4 ∷ []) [] plain))
+    (listed ((0x7F ∷ [], 4) ∷ (0x80 ∷ 0xFF ∷ [], 3) ∷ (0xFF ∷ [], 2) ∷ (0xFF ∷ 0x00 ∷ [], 1) ∷ []))
+    -- "Value: any unsigned 32-bit number."
+    ∷ row greatest-value (called (answers 128 511 (insert x 4294967295 ∷ get x ∷ []))) (called (only DONE ∷ valued 4294967295 ∷ []))
+    -- "tag 02 with the value in 4 bytes"
+    ∷ row greatest-value-shown
+    (paged (shown 128 511 (insert x 4294967295 ∷ []) [] plain start 1))
+    (paged (1 ∷ 0 ∷ 1 ∷ 0x78 ∷ 2 ∷ 0 ∷ 4 ∷ 0xFF ∷ 0xFF ∷ 0xFF ∷ 0xFF ∷ [], (1, true)))
+    -- "Height limit: 0 to 65,535; 128 or more never refuses"
+    ∷ row greatest-limit
+    (called (answers 0 511 (insert x 1 ∷ insert y 2 ∷ setLimit 65535 ∷ insert y 2 ∷ [])))
+    (called (only DONE ∷ only HEIGHT ∷ only DONE ∷ only DONE ∷ []))
+    ∷ row greatest-limit (numbers (after (setLimit 65535 ∷ []) (empty 0 511) .limit ∷ after [] (empty 65535 511) .limit ∷ [])) (numbers (65535 ∷ 65535 ∷ []))
     ∷ []
 
 -- Document 01's numbers that hang on the longest key.

@@ -11,7 +11,7 @@ use Rattle.model.specs.Map.{pick}
 use Rattle.model.specs.Page.{Mode, From}
 use Rattle.promises.specs.Meaning.{Meaning, Reply, Layout, Means}
 use Rattle.promises.specs.Says.{insertSays, getSays, overwriteSays, removeSays, setLimitSays, isEmptySays, pageSays}
-use Rattle.promises.specs.Promises.{Create, Insert, Overwrite, Remove, SetLimit, Get, IsEmpty, Pages}
+use Rattle.promises.specs.Promises.{Create, Insert, Overwrite, Remove, SetLimit, Get, IsEmpty, PageCall}
 
 -- A call on a store.
 pub data Call : Type 0 where
@@ -100,7 +100,7 @@ Keeps L (setLimit l) st st′ r = SetLimit L l st st′ r
 Keeps L (get k) st st′ r = (st′ ≡ st) × Get L k st r
 Keeps L isEmpty st st′ r = (st′ ≡ st) × IsEmpty L st r
 Keeps L (page q mode from n room) st st′ r =
-    (st′ ≡ st) × ((out : List ℕ) × (out′ : List ℕ) × (length out ≡ room) × Pages L (record { prefix = q; mode = mode; from = from; size = n; room = room }) st out out′ r)
+    (st′ ≡ st) × ((out : List ℕ) × (out′ : List ℕ) × (length out ≡ room) × PageCall L q mode from n st out out′ r)
 
 -- A call that was made: its answer, and the store's bytes after it.
 pub record Made : Type 0 where

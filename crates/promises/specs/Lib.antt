@@ -4,6 +4,7 @@ pub mod Promises
 pub mod Determined
 pub mod Moments
 pub mod Session
+pub mod Programs
 pub mod History
 pub mod Cases
 pub mod Rust

@@ -1,5 +1,5 @@
--- A listing as its user fetches it: calls that keep the page promise, each on the store of its moment, each carrying on after the last key that the bytes
--- of the page before show.
+-- A listing as its user fetches it: `first_page`, then `next_page` after the last key that the bytes of the page before show, each call keeping its promise on the
+-- store of its moment.
 -- Assumes nothing.
 use Prim.Native.Nat.{ℕ, _≤_}
 use mathlib.Core.Path.{_≡_}
@@ -9,7 +9,7 @@ use Rattle.model.specs.Map.{Entry}
 use Rattle.model.specs.Page.{Mode, From, Page}
 use Rattle.model.specs.Entry.{entriesBytes}
 use Rattle.promises.specs.Meaning.{Layout, Meaning, Means, Reply}
-use Rattle.promises.specs.Promises.{Pages}
+use Rattle.promises.specs.Promises.{PageCall}
 use Rattle.promises.specs.Moments.{Moment, onward}
 
 -- The output shows these entries: as many as the answer counts, from its first byte on.
@@ -28,10 +28,10 @@ pub record Step : Type 0 where
   pub reply : Reply
   pub given : List Entry
 
--- The page was fetched by a call that keeps the promise, on an accepted store, and its output shows what was given.
+-- The page was fetched by the call for its place, which keeps its promise, on an accepted store, and its output shows what was given.
 pub record Fetched (L : Layout) (mode : Mode) (q : List ℕ) (from : From) (s : Step) : Type 0 where
   pub means : Means L (s .store) (s .meaning)
-  pub promise : Pages L (record { prefix = q; mode = mode; from = from; size = s .size; room = length (s .out) }) (s .store) (s .out) (s .out′) (s .reply)
+  pub promise : PageCall L q mode from (s .size) (s .store) (s .out) (s .out′) (s .reply)
   -- it is not refused
   pub done : s .reply .answer ≡ 0
   pub shows : Shows (s .out′) (s .reply) (s .given)

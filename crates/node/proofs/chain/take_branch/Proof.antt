@@ -16,8 +16,8 @@ is-free-branch-requires c κs = search needs
 next-branch-requires : tie.Need-next-branch-requires
 next-branch-requires c κs = search needs
 
-add-t9 : tie.Need-add-t9
-add-t9 c = search needs
+add-t11 : tie.Need-add-t11
+add-t11 c = search needs
 
 returns-3 : tie.Need-returns-3
 returns-3 c = search (branch-first, needs)
@@ -33,6 +33,6 @@ take-branch-spec =
     returns-2
     is-free-branch-requires
     next-branch-requires
-    add-t9
+    add-t11
     returns-3
     returns-4)

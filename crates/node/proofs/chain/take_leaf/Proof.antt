@@ -16,8 +16,8 @@ is-free-leaf-requires c κs = search needs
 next-leaf-requires : tie.Need-next-leaf-requires
 next-leaf-requires c κs = search needs
 
-add-t9 : tie.Need-add-t9
-add-t9 c = search needs
+add-t11 : tie.Need-add-t11
+add-t11 c = search needs
 
 returns-3 : tie.Need-returns-3
 returns-3 c = search (leaf-first, needs)
@@ -33,6 +33,6 @@ take-leaf-spec =
     returns-2
     is-free-leaf-requires
     next-leaf-requires
-    add-t9
+    add-t11
     returns-3
     returns-4)
