@@ -1,0 +1,6 @@
+pub mod SameLaws
+pub mod UsedLaws
+pub mod LawfulLaws
+pub mod LimitLaws
+pub mod Contracts
+pub mod CallLaws

@@ -1,0 +1,50 @@
+// The value of a stored key.
+use node::header::Head;
+use node::header::Header;
+use node::header::read_head;
+use trie::find::Exact;
+use trie::find::find_exact_leaf;
+ghost use mathlib.Core.Path.{_≡_};
+ghost use Prim.Native.Nat.{_≤_};
+ghost use lib.ListN.{length};
+ghost use Rattle.node.specs.Layout.{start};
+ghost use Rattle.promises.specs.Promises.{Get};
+ghost use Rattle.index.specs.Layout.{layout};
+ghost use Rattle.index.specs.Replies.{getReply};
+ghost use Rattle.index.specs.Inner.{gotIn};
+
+pub enum Got {
+    Value(u32),
+    // the slice is too short, the header is wrong, or the store holds no tree
+    Store,
+    // the key is longer than 64 bytes
+    Key,
+    // the key is not stored
+    Absent,
+}
+
+// The longest key.
+const KEY_LIMIT: usize = 64;
+
+fn get_in(store: &[u8], h: Header, key: &[u8]) -> Got
+    requires { ⌜ start (h .capacity) ≤ length (now store) ⌝ }
+    ensures { λ r. ⌜ r ≡ gotIn (now (store .entry)) h (now (key .entry)) ⌝ }
+{
+    match find_exact_leaf(store, h, key) {
+        Exact::Leaf(n, _step) => Got::Value(node::leaf::value(store, n)),
+        Exact::Absent => Got::Absent,
+        Exact::Wrong => Got::Store,
+    }
+}
+
+pub fn get(store: &[u8], key: &[u8]) -> Got
+    ensures { λ r. ⌜ Get layout (now (key .entry)) (now (store .entry)) (getReply r) ⌝ }
+{
+    let Head::Good(h) = read_head(store) else {
+        return Got::Store;
+    };
+    if key.len() > KEY_LIMIT {
+        return Got::Key;
+    }
+    get_in(store, h, key)
+}

@@ -1,0 +1,48 @@
+// A key goes in with its value; a stored key gets the new value.
+use node::header::Head;
+use node::header::read_head;
+use trie::insert::Put;
+ghost use mathlib.Core.Path.{_≡_};
+ghost use Rattle.promises.specs.Promises.{Insert};
+ghost use Rattle.index.specs.Layout.{layout};
+ghost use Rattle.index.specs.Replies.{insertReply, insertedOf};
+
+pub enum Inserted {
+    New,
+    // the key was stored, and has the new value
+    Replaced,
+    // the slice is too short, the header is wrong, or the store holds no tree
+    Store,
+    // the key is longer than 64 bytes
+    Key,
+    // the closest leaf is at the limit, and a new branch would lie above it
+    Height,
+    Full,
+}
+
+// The longest key.
+const KEY_LIMIT: usize = 64;
+
+fn named(put: Put) -> Inserted
+    ensures { λ r. ⌜ r ≡ insertedOf put ⌝ }
+{
+    match put {
+        Put::New => Inserted::New,
+        Put::Replaced => Inserted::Replaced,
+        Put::Height => Inserted::Height,
+        Put::Full => Inserted::Full,
+        Put::Wrong => Inserted::Store,
+    }
+}
+
+pub fn insert(store: &mut [u8], key: &[u8], value: u32) -> Inserted
+    ensures { λ r. ⌜ Insert layout (now (key .entry)) value (now (store .entry)) (now (store .exit)) (insertReply r) ⌝ }
+{
+    let Head::Good(h) = read_head(store) else {
+        return Inserted::Store;
+    };
+    if key.len() > KEY_LIMIT {
+        return Inserted::Key;
+    }
+    named(trie::insert::insert(store, h, key, value))
+}

@@ -1,0 +1,29 @@
+// Whether a store has no key: by the header's count of leaves.
+use node::header::Head;
+use node::header::read_head;
+ghost use mathlib.Core.Path.{_≡_};
+ghost use Rattle.promises.specs.Promises.{IsEmpty};
+ghost use Rattle.index.specs.Layout.{layout};
+ghost use Rattle.index.specs.Replies.{emptyOf, emptyReply};
+
+pub enum Empty {
+    Yes,
+    No,
+    // the slice is too short or the header is wrong
+    Store,
+}
+
+fn empty_of(leaves: u16) -> Empty
+    ensures { λ r. ⌜ r ≡ emptyOf leaves ⌝ }
+{
+    if leaves == 0 { Empty::Yes } else { Empty::No }
+}
+
+pub fn is_empty(store: &[u8]) -> Empty
+    ensures { λ r. ⌜ IsEmpty layout (now (store .entry)) (emptyReply r) ⌝ }
+{
+    match read_head(store) {
+        Head::Good(h) => empty_of(h.leaves),
+        Head::Bad => Empty::Store,
+    }
+}

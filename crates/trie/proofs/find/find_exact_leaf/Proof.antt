@@ -1,0 +1,46 @@
+-- `trie::find::find_exact_leaf` meets its contract: by the ways out: an empty store, a root link that leads nowhere, and a root. Assumes nothing.
+use Rattle.trie.proofs.FindLaws.{none-stored, root-below, root-found, root-absent, root-wrong}
+use borrow.Author.Needs.{needs}
+use Rattle.trie.proofs.find.find_exact_leaf.Statement.{statement}
+use Rattle.trie.proofs.find.find_exact_leaf.Tie as tie
+
+returns : tie.Need-returns
+returns c = (search (none-stored, needs), tt)
+
+link-of-requires : tie.Need-link-of-requires
+link-of-requires c κs = search needs
+
+enum-known-root : tie.Need-enum-known-root
+enum-known-root c = search needs
+
+find-from-requires : tie.Need-find-from-requires
+find-from-requires c κs = search (root-below, needs)
+
+enum-told : tie.Need-enum-told
+enum-told c = search needs
+
+enum-told-2 : tie.Need-enum-told-2
+enum-told-2 c = search needs
+
+returns-2 : tie.Need-returns-2
+returns-2 c = (search (root-found, needs), search needs)
+
+returns-3 : tie.Need-returns-3
+returns-3 c = (search (root-absent, needs), tt)
+
+returns-4 : tie.Need-returns-4
+returns-4 c = (search (root-wrong, needs), tt)
+
+pub find-exact-leaf-spec : {M : Type 1} → statement M
+find-exact-leaf-spec =
+    tie.close
+    (tie.spec
+    returns
+    link-of-requires
+    enum-known-root
+    find-from-requires
+    enum-told
+    enum-told-2
+    returns-2
+    returns-3
+    returns-4)

@@ -1,0 +1,42 @@
+-- `trie::find::find_from` meets its contract: by the three answers of the descent. Assumes nothing.
+use Rattle.trie.proofs.FindLaws.{lies-at, from-at, from-stands, from-missing, from-wrong}
+use borrow.Author.Needs.{needs}
+use Rattle.trie.proofs.find.find_from.Statement.{statement}
+use Rattle.trie.proofs.find.find_from.Tie as tie
+
+descend-requires : tie.Need-descend-requires
+descend-requires c κs = search needs
+
+enum-known-step : tie.Need-enum-known-step
+enum-known-step c = search needs
+
+matching-requires : tie.Need-matching-requires
+matching-requires c κs = search (lies-at, needs)
+
+enum-known--b : tie.Need-enum-known--b
+enum-known--b c = search needs
+
+enum-told : tie.Need-enum-told
+enum-told c = search needs
+
+returns : tie.Need-returns
+returns c = (search (from-at, needs), search (from-stands, needs))
+
+returns-2 : tie.Need-returns-2
+returns-2 c = (search (from-missing, needs), tt)
+
+returns-3 : tie.Need-returns-3
+returns-3 c = (search (from-wrong, needs), tt)
+
+pub find-from-spec : {M : Type 1} → statement M
+find-from-spec =
+    tie.close
+    (tie.spec
+    descend-requires
+    enum-known-step
+    matching-requires
+    enum-known--b
+    enum-told
+    returns
+    returns-2
+    returns-3)

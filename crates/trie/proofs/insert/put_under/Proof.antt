@@ -1,0 +1,42 @@
+-- `trie::insert::put_under` meets its contract: by the two answers of the descent. Assumes nothing.
+use Rattle.trie.proofs.WriteLaws.{closest-below, near-answer, near-bytes, lost-answer, lost-bytes}
+use borrow.Author.Needs.{needs}
+use Rattle.trie.proofs.insert.put_under.Statement.{statement}
+use Rattle.trie.proofs.insert.put_under.Tie as tie
+
+find-closest-leaf-requires : tie.Need-find-closest-leaf-requires
+find-closest-leaf-requires c κs = search needs
+
+enum-known-n : tie.Need-enum-known-n
+enum-known-n c = search needs
+
+put-near-requires : tie.Need-put-near-requires
+put-near-requires c κs = search (closest-below, needs)
+
+enum-told : tie.Need-enum-told
+enum-told c = search needs
+
+same-length : tie.Need-same-length
+same-length c = search needs
+
+returns : tie.Need-returns
+returns c = (search (near-answer, needs), search (near-bytes, needs))
+
+same-length-2 : tie.Need-same-length-2
+same-length-2 c = search needs
+
+returns-2 : tie.Need-returns-2
+returns-2 c = (search (lost-answer, needs), search (lost-bytes, needs))
+
+pub put-under-spec : {M : Type 1} → statement M
+put-under-spec =
+    tie.close
+    (tie.spec
+    find-closest-leaf-requires
+    enum-known-n
+    put-near-requires
+    enum-told
+    same-length
+    returns
+    same-length-2
+    returns-2)

@@ -1,0 +1,4 @@
+pub mod Walk
+pub mod Find
+pub mod Writes
+pub mod Accepted

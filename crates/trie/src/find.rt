@@ -1,0 +1,75 @@
+// Exact lookup: one descent, and the leaf's key compared.
+use crate::descent::Step;
+use crate::descent::Walked;
+use crate::descent::descend;
+use node::child::Child;
+use node::child::LeafNo;
+use node::child::Link;
+use node::child::Linked;
+use node::child::link_of;
+use node::header::Header;
+ghost use mathlib.Core.Path.{_≡_};
+ghost use Prim.Native.Nat.{_≤_, _<_};
+ghost use lib.ListN.{length};
+ghost use Rattle.node.specs.Layout.{start};
+ghost use Rattle.node.specs.Child.{numberIn};
+ghost use Rattle.trie.specs.Find.{matched, findFrom, findIn, Stands};
+
+// Past every position.
+const NO_STOP: usize = 256;
+
+// What an exact lookup finds.
+pub enum Exact {
+    // the leaf, and the last step of the descent to it
+    Leaf(LeafNo, Step),
+    Absent,
+    // the store holds no tree
+    Wrong,
+}
+
+// A leaf that a descent met: the one looked for, or another.
+fn matching(store: &[u8], capacity: u16, key: &[u8], step: Step) -> Exact
+    requires { ⌜ (start capacity ≤ length (now store)) × (numberIn (step .link .child) < capacity) ⌝ }
+    ensures { λ r. ⌜ r ≡ matched (now (store .entry)) (now (key .entry)) step ⌝ }
+{
+    let link = step.link;
+    let child = link.child;
+    match child {
+        Child::Leaf(n) => {
+            if fields::same(key, node::leaf::key(store, n)) {
+                Exact::Leaf(n, step)
+            } else {
+                Exact::Absent
+            }
+        }
+        Child::Branch(_b) => Exact::Wrong,
+    }
+}
+
+fn find_from(store: &[u8], capacity: u16, key: &[u8], root: Link) -> Exact
+    requires { ⌜ (start capacity ≤ length (now store)) × (numberIn (root .child) < capacity) ⌝ }
+    ensures is { λ r. ⌜ r ≡ findFrom (now (store .entry)) capacity (now (key .entry)) root ⌝ }
+    ensures stands { λ r. ⌜ Stands capacity r ⌝ }
+{
+    match descend(store, capacity, key, root, NO_STOP) {
+        Walked::At(step) => matching(store, capacity, key, step),
+        Walked::Missing(_b, _s) => Exact::Absent,
+        Walked::Wrong => Exact::Wrong,
+    }
+}
+
+// The leaf of a key in a store whose header is h.
+pub fn find_exact_leaf(store: &[u8], h: Header, key: &[u8]) -> Exact
+    requires { ⌜ start (h .capacity) ≤ length (now store) ⌝ }
+    ensures is { λ r. ⌜ r ≡ findIn (now (store .entry)) h (now (key .entry)) ⌝ }
+    ensures stands { λ r. ⌜ Stands (h .capacity) r ⌝ }
+{
+    if h.leaves == 0 {
+        return Exact::Absent;
+    }
+    match link_of(h.root, h.capacity) {
+        Linked::To(root) => find_from(store, h.capacity, key, root),
+        Linked::Absent => Exact::Wrong,
+        Linked::Wrong => Exact::Wrong,
+    }
+}
