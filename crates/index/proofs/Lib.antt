@@ -4,3 +4,4 @@ pub mod LawfulLaws
 pub mod LimitLaws
 pub mod Contracts
 pub mod CallLaws
+pub mod CheckLaws

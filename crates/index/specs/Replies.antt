@@ -6,6 +6,7 @@ use lib.Dec.{eqb}
 use Rattle.model.specs.Answers.{number, DONE, REPLACED, STORE, KEY, HEIGHT, FULL, ABSENT, ROOM}
 use Rattle.promises.specs.Meaning.{Reply, alone}
 use Rattle.node.specs.declared.create.Made.{Made}
+use Rattle.audit.specs.declared.Checked.{Checked}
 use Rattle.trie.specs.declared.insert.Put.{Put}
 use Rattle.index.specs.declared.changed.Changed.{Changed}
 use Rattle.index.specs.declared.get.Got.{Got}
@@ -17,6 +18,11 @@ use Rattle.index.specs.declared.set_limit.Limited.{Limited}
 abbrev pub createReply : Made → Reply
 createReply Made.Done = alone DONE
 createReply Made.Room = alone ROOM
+
+-- check: done, or STORE
+abbrev pub checkReply : Checked → Reply
+checkReply Checked.Done = alone DONE
+checkReply Checked.Store = alone STORE
 
 -- is_empty: 1 for an empty store and 0 for another is the value beside the answer
 abbrev pub emptyReply : Empty → Reply

@@ -1,5 +1,6 @@
 // The public face: each call's contract is its promise, on any bytes and with nothing required.
 pub mod changed;
+pub mod check;
 pub mod create;
 pub mod get;
 pub mod insert;

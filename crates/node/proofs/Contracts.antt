@@ -115,6 +115,10 @@ module _ (st : List ℕ) (n a : ℕ) where
   unfolding leafIn
   key-over x p q h = rw (← p, ← q) (omega arith)
 
+  pub size-fits : (x : ℕ) → a ≡ sizeAt n → x ≡ getD st a 0 → leb x keyLimit ≡ leb (leafIn st n .size) keyLimit
+  unfolding leafIn
+  size-fits x p q = rw (← p, ← q)
+
   module _ (x : ℕ) (p : a ≡ start n) (q : x ≡ keySize (leafIn st n .size)) where
     pub key-is : take (a + x - a) (drop a st) ≡ leafIn st n .key
     unfolding leafIn

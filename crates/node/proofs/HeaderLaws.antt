@@ -111,11 +111,11 @@ pub record Right (st : List ℕ) (h : Header) : Type 0 where
   pub branches : h .branches ≤ h .capacity
 
 -- by the test, in both directions
-and-left : (s t : Bool) → (s && t) ≡ true → s ≡ true
+pub and-left : (s t : Bool) → (s && t) ≡ true → s ≡ true
 and-left true t e = refl
 and-left false t e = e
 
-and-right : (s t : Bool) → (s && t) ≡ true → t ≡ true
+pub and-right : (s t : Bool) → (s && t) ≡ true → t ≡ true
 and-right true t e = e
 and-right false t e = absurd (true≢false (sym e))
 

@@ -34,7 +34,7 @@ pub enum TakenBranch {
     Nothing,
 }
 
-fn is_free_leaf(store: &[u8], leaf: LeafNo) -> bool
+pub fn is_free_leaf(store: &[u8], leaf: LeafNo) -> bool
     requires { ⌜ Room (now store) (leaf .0) ⌝ }
     ensures { λ r. ⌜ r ≡ leaves .isFree (now (store .entry)) (leaf .0) ⌝ }
 {
@@ -43,14 +43,14 @@ fn is_free_leaf(store: &[u8], leaf: LeafNo) -> bool
     store[a] == 255
 }
 
-fn is_free_branch(store: &[u8], branch: BranchNo) -> bool
+pub fn is_free_branch(store: &[u8], branch: BranchNo) -> bool
     requires { ⌜ Room (now store) (branch .0) ⌝ }
     ensures { λ r. ⌜ r ≡ branches .isFree (now (store .entry)) (branch .0) ⌝ }
 {
     child_count(store, branch) == 0
 }
 
-fn next_leaf(store: &[u8], leaf: LeafNo) -> u16
+pub fn next_leaf(store: &[u8], leaf: LeafNo) -> u16
     requires { ⌜ Room (now store) (leaf .0) ⌝ }
     ensures { λ r. ⌜ r ≡ leaves .next (now (store .entry)) (leaf .0) ⌝ }
 {
@@ -59,7 +59,7 @@ fn next_leaf(store: &[u8], leaf: LeafNo) -> u16
     read2(store, a)
 }
 
-fn next_branch(store: &[u8], branch: BranchNo) -> u16
+pub fn next_branch(store: &[u8], branch: BranchNo) -> u16
     requires { ⌜ Room (now store) (branch .0) ⌝ }
     ensures { λ r. ⌜ r ≡ branches .next (now (store .entry)) (branch .0) ⌝ }
 {

@@ -10,6 +10,7 @@ use fields::wide;
 use fields::write1;
 ghost use mathlib.Core.Path.{_≡_};
 ghost use Prim.Native.Nat.{_≤_};
+ghost use lib.Dec.{leb};
 ghost use lib.ListN.{length};
 ghost use Rattle.model.specs.Key.{keyLimit};
 ghost use Rattle.node.specs.Layout.{Room};
@@ -23,6 +24,17 @@ fn key_size(store: &[u8], n: u16) -> usize
     let a = size_at(n);
     let size = wide(store[a]) as usize;
     if size <= KEY_LIMIT { size } else { KEY_LIMIT }
+}
+
+// Whether the length byte is that of a key.
+pub fn fits(store: &[u8], leaf: LeafNo) -> bool
+    requires { ⌜ Room (now store) (leaf .0) ⌝ }
+    ensures { λ r. ⌜ r ≡ leb (leafIn (now (store .entry)) (leaf .0) .size) keyLimit ⌝ }
+{
+    let n = leaf.0;
+    let a = size_at(n);
+    let size = wide(store[a]) as usize;
+    size <= KEY_LIMIT
 }
 
 pub fn key(store: &[u8], leaf: LeafNo) -> &[u8]

@@ -16,7 +16,7 @@ use Rattle.pictures.proofs.Frame.{at-self, at-same}
 pub at-other : (m n : ℕ) → m ≢ n → at m n ≡ 0
 at-other m n d = number-other d 1 0
 
-at-split : (r x : ℕ) → (r ≡ x) ⊎ (at r x ≡ 0)
+pub at-split : (r x : ℕ) → (r ≡ x) ⊎ (at r x ≡ 0)
 at-split r x = go (ℕ-discrete r x)
   where
     go : Dec (r ≡ x) → (r ≡ x) ⊎ (at r x ≡ 0)
@@ -134,7 +134,7 @@ sum-full f (suc n) h e r l = go (decLt r n) (λ q. sum-full f n h (omega (arith,
     go (no d) ih = let q : r ≡ n = omega arith in ap f q ∙ omega (arith, sum-le f n h, h n)
 
 -- Of what is nowhere at n or past it, the number is below n.
-below-of : (f : ℕ → ℕ) (n x : ℕ) → 1 ≤ f x → ((r : ℕ) → n ≤ r → f r ≡ 0) → x < n
+pub below-of : (f : ℕ → ℕ) (n x : ℕ) → 1 ≤ f x → ((r : ℕ) → n ≤ r → f r ≡ 0) → x < n
 below-of f n x l h = go (decLt x n)
   where
     go : Dec (x < n) → x < n

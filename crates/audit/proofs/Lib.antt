@@ -1,0 +1,9 @@
+pub mod Contracts
+pub mod SlotLaws
+pub mod NodeLaws
+pub mod Chained
+pub mod Bytewise
+pub mod Reached
+pub mod Sees
+pub mod Passes
+pub mod Theorem
