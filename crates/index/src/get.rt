@@ -2,6 +2,7 @@
 use node::header::Head;
 use node::header::Header;
 use node::header::read_head;
+use node::layout::KEY_LIMIT;
 use trie::find::Exact;
 use trie::find::find_exact_leaf;
 ghost use mathlib.Core.Path.{_≡_};
@@ -22,9 +23,6 @@ pub enum Got {
     // the key is not stored
     Absent,
 }
-
-// The longest key.
-const KEY_LIMIT: usize = 64;
 
 fn get_in(store: &[u8], h: Header, key: &[u8]) -> Got
     requires { ⌜ start (h .capacity) ≤ length (now store) ⌝ }

@@ -1,6 +1,7 @@
 // A key goes in with its value; a stored key gets the new value.
 use node::header::Head;
 use node::header::read_head;
+use node::layout::KEY_LIMIT;
 use trie::insert::Put;
 ghost use mathlib.Core.Path.{_≡_};
 ghost use Rattle.promises.specs.Promises.{Insert};
@@ -19,9 +20,6 @@ pub enum Inserted {
     Height,
     Full,
 }
-
-// The longest key.
-const KEY_LIMIT: usize = 64;
 
 fn named(put: Put) -> Inserted
     ensures { λ r. ⌜ r ≡ insertedOf put ⌝ }

@@ -3,6 +3,7 @@ use crate::changed::Changed;
 use node::header::Head;
 use node::header::Header;
 use node::header::read_head;
+use node::layout::KEY_LIMIT;
 use trie::find::Exact;
 use trie::find::find_exact_leaf;
 ghost use mathlib.Core.Path.{_≡_};
@@ -14,9 +15,6 @@ ghost use Rattle.promises.specs.Promises.{Remove};
 ghost use Rattle.index.specs.Layout.{layout};
 ghost use Rattle.index.specs.Replies.{changedReply};
 ghost use Rattle.index.specs.Inner.{DidChange, removedIn};
-
-// The longest key.
-const KEY_LIMIT: usize = 64;
 
 fn remove_in(store: &mut [u8], h: Header, key: &[u8]) -> Changed
     requires { ⌜ (start (h .capacity) ≤ length (now store)) × (h .capacity ≤ most) ⌝ }
