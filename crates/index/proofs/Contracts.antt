@@ -16,7 +16,7 @@ use Rattle.model.specs.Picture.{Tree}
 use Rattle.model.proofs.Unique.{listing-some}
 use Rattle.pictures.proofs.Tally.{leaves-length}
 use Rattle.promises.specs.Meaning.{Reply, alone}
-use Rattle.promises.specs.Says.{isNothing}
+use Rattle.promises.specs.Says.{isNothing, isEmptySays, setLimitSays}
 use Rattle.promises.specs.Promises.{Kind, isEmptyKinds, setLimitKinds, Create, IsEmpty, SetLimit}
 use Rattle.promises.proofs.Bridge.{isNone, is-empty}
 use Rattle.node.specs.Header.{headIn, headOf, setHead}
@@ -34,15 +34,8 @@ use Rattle.index.specs.Layout.{isGood, layout, withLimit}
 use Rattle.index.specs.Replies.{createReply, emptyReply, emptyOf, limitReply}
 use Rattle.index.specs.declared.is_empty.Empty.{Empty}
 use Rattle.index.specs.declared.set_limit.Limited.{Limited}
+use Rattle.index.proofs.HeadLaws.{headed, not-wrong, reads-bad, writes-bad}
 use Rattle.index.proofs.LimitLaws.{limit-head, limit-accepted}
-
--- a right header is not wrong
-not-wrong : (st : List ℕ) (h : Header) → Good h ≡ headOf st → isGood (headOf st) ≡ false → ⊥
-not-wrong st h e w = true≢false (ap isGood e ∙ w)
-
--- and a wrong one is not right
-not-good : (st : List ℕ) → Bad ≡ headOf st → headOf st ≡ Good (headIn st) → ⊥
-not-good st e g = true≢false (sym (ap isGood g) ∙ sym (ap isGood e))
 
 -- ---- create
 
@@ -106,7 +99,7 @@ empty-is st (some t) a = rw (ne-eqb (headIn st .leaves) 0 (λ e. omega (arith, l
 pub empty-good : (st : List ℕ) (x : Head) (h : Header) (r : Empty) → x ≡ headOf st → x ≡ Good h → r ≡ emptyOf (h .leaves) → IsEmpty layout st (emptyReply r)
 empty-good st x h r p g q = record {
   kind = empty-kind r;
-  wrong = λ w. absurd (not-wrong st h e w);
+  wrong = λ w. absurd (not-wrong st h (headed st x h p g) w);
   answers = λ m w.
       ap emptyReply (q ∙ ap (λ (z : Header). emptyOf (z .leaves)) (good-right st h (sym e) .is))
       ∙ empty-is st (w .tree) (w .accepted)
@@ -117,11 +110,7 @@ empty-good st x h r p g q = record {
     e = sym g ∙ p
 
 pub empty-bad : (st : List ℕ) (x : Head) → x ≡ headOf st → x ≡ Bad → IsEmpty layout st (emptyReply Empty.Store)
-empty-bad st x p b = record {
-  kind = empty-kind Empty.Store;
-  wrong = λ w. refl;
-  answers = λ m w. absurd (not-good st (sym b ∙ p) (w .accepted .head));
-}
+empty-bad st x p b = reads-bad st x p b isEmptyKinds isEmptySays (empty-kind Empty.Store)
 
 -- ---- set_limit
 
@@ -139,7 +128,7 @@ limit-good limit st st′ x h p g q small bytes = record {
   kept = record { size = size; refused = λ l. absurd (omega arith) };
   rest = rw q (past-stays st (withLimit h limit) (capacityOf (length st)));
   kind = limit-kind Limited.Done;
-  wrong = λ w. absurd (not-wrong st h e w);
+  wrong = λ w. absurd (not-wrong st h (headed st x h p g) w);
   answers = λ m w. refl;
   after = λ m w. record {
     tree = w .tree;
@@ -161,11 +150,4 @@ limit-good limit st st′ x h p g q small bytes = record {
     is = q ∙ ap (λ (z : Header). setHead st (withLimit z limit)) (good-right st h (sym e) .is)
 
 pub limit-bad : (limit : ℕ) (st : List ℕ) (x : Head) → x ≡ headOf st → x ≡ Bad → SetLimit layout limit st st (limitReply Limited.Store)
-limit-bad limit st x p b = record {
-  kept = record { size = refl; refused = λ l. refl };
-  rest = refl;
-  kind = limit-kind Limited.Store;
-  wrong = λ w. refl;
-  answers = λ m w. absurd (not-good st (sym b ∙ p) (w .accepted .head));
-  after = λ m w. absurd (not-good st (sym b ∙ p) (w .accepted .head));
-}
+limit-bad limit st x p b = writes-bad st x p b setLimitKinds (setLimitSays limit) (limit-kind Limited.Store)

@@ -5,3 +5,4 @@ pub mod LimitLaws
 pub mod Contracts
 pub mod CallLaws
 pub mod CheckLaws
+pub mod HeadLaws

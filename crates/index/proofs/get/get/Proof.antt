@@ -1,5 +1,6 @@
 -- `index::get::get` meets its contract: by the three ways out: a wrong header, a key that is too long, and what the lookup says. Assumes nothing.
-use Rattle.index.proofs.CallLaws.{get-bad, get-long, blocks, get-done}
+use Rattle.index.proofs.HeadLaws.{blocks}
+use Rattle.index.proofs.CallLaws.{get-bad, get-long, get-done}
 use borrow.Author.Needs.{needs}
 use Rattle.index.proofs.get.get.Statement.{statement}
 use Rattle.index.proofs.get.get.Tie as tie
