@@ -6,15 +6,13 @@ use node::chain::next_branch;
 use node::chain::next_leaf;
 use node::child::BranchNo;
 use node::child::LeafNo;
+use node::layout::LAST;
 ghost use mathlib.Core.Path.{_≡_};
 ghost use Prim.Native.Nat.{_≤_, _-_};
 ghost use lib.ListN.{length};
 ghost use Rattle.node.specs.Layout.{start};
 ghost use Rattle.node.specs.Chain.{leaves, branches};
 ghost use Rattle.audit.specs.Accepts.{chainRight};
-
-// Ends a chain.
-const LAST: u16 = 65535;
 
 // The chain of the leaves that are not in use.
 pub fn leaves_free(store: &[u8], capacity: u16, first: u16, used: u16) -> bool

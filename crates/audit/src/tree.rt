@@ -6,6 +6,7 @@ use node::child::LeafNo;
 use node::child::Link;
 use node::child::Linked;
 use node::child::link_of;
+use node::layout::NO_ROOT;
 use node::leaf::fits;
 use node::leaf::key;
 use trie::descent::STEPS;
@@ -20,9 +21,6 @@ ghost use Rattle.audit.specs.Walk.{leafSeen, stands, head, addKid, finis
 
 // The slots of a branch.
 const SLOTS: u8 = 17;
-
-// The item of no link.
-const NO_ROOT: u32 = 65535;
 
 // What the check of a node says: the first leaf below it and how many leaves and branches were met, or that no picture is there.
 pub enum Seen {

@@ -9,7 +9,8 @@ use native.Mathlib.Nat.{add-assoc}
 use native.Mathlib.Omega.{arith}
 use lib.Dec.{leb}
 use lib.ListN.{length, take, drop, getD, set, length-take, length-drop, length-set}
-use lib.Seq.{sets, length-sets, sets-eq, getD-take, getD-drop, drop-drop, ext-getD, getD-set-same, getD-set-other, drop-cons, take-all}
+use native.Mathlib.Decide.{decLt}
+use lib.Seq.{sets, length-sets, sets-eq, set-out, take-set-le, take-set-lt, getD-take, getD-drop, drop-drop, ext-getD, getD-set-same, getD-set-other, drop-cons, take-all}
 use borrow.Author.Tests.{leb-true, leb-false}
 use Rattle.fields.specs.Part.{part, splice, Apart}
 
@@ -92,6 +93,19 @@ splice-nil xs a = refl
 pub splice-cons : (xs : List ℕ) (a y : ℕ) (ys : List ℕ) → splice xs a (y ∷ ys) ≡ splice (set xs a y) (suc a) ys
 unfolding splice
 splice-cons xs a y ys = refl
+
+-- the first elements of a list with ys in some place are its first elements with ys there, as far as they go
+take-set : (m : ℕ) (xs : List ℕ) (a y : ℕ) → take m (set xs a y) ≡ set (take m xs) a y
+take-set m xs a y = go (decLt a m)
+  where
+    go : Dec (a < m) → take m (set xs a y) ≡ set (take m xs) a y
+    go (yes h) = take-set-lt m xs a y h
+    go (no h) = take-set-le m xs a y (omega arith) ∙ sym (set-out (take m xs) a y (omega (arith, length-take m xs)))
+
+pub take-splice : (m : ℕ) (xs : List ℕ) (a : ℕ) (ys : List ℕ) → take m (splice xs a ys) ≡ splice (take m xs) a ys
+unfolding splice
+take-splice m xs a [] = refl
+take-splice m xs a (y ∷ ys) = take-splice m (set xs a y) (suc a) ys ∙ ap (λ (z : List ℕ). sets z (suc a) ys) (take-set m xs a y)
 
 -- a list that is another one with ys in some place, by its bytes
 pub is-splice : (xs zs : List ℕ) (a : ℕ) (ys : List ℕ) → length zs ≡ length xs → a + length ys ≤ length xs

@@ -33,7 +33,7 @@ use Rattle.node.proofs.HeaderLaws.{block-in}
 use Rattle.trie.specs.Accepted.{Accepted}
 use Rattle.trie.specs.Walk.{Within}
 use Rattle.trie.specs.Find.{findIn, Stands}
-use Rattle.trie.specs.Writes.{Outcome, Did, insertIn, Taken, DidTake, removeUnder}
+use Rattle.trie.specs.Writes.{Outcome, outcome, Did, insertIn, removeUnder}
 use Rattle.trie.specs.declared.descent.Step.{Step}
 use Rattle.node.specs.declared.child.LeafNo.{LeafNo}
 use Rattle.trie.specs.declared.insert.Put.{Put}
@@ -49,20 +49,15 @@ use Rattle.trie.specs.declared.descent.Spot.the-variants.{Root}
 use Rattle.trie.proofs.OneLaws.{one-map}
 use Rattle.index.specs.Layout.{isGood, layout}
 use Rattle.index.specs.Replies.{insertReply, insertedOf, getReply, changedReply}
-use Rattle.index.specs.Inner.{gotOf, gotIn, Change, change, DidChange, overwritten, overwrittenIn, takenOut, removed, removedIn}
+use Rattle.index.specs.Calls.{gotOf, gotIn, overwritten, overwrittenIn, takenOut, removed, removedIn}
 use Rattle.index.specs.declared.insert.Inserted.{Inserted}
 use Rattle.index.specs.declared.get.Got.{Got}
 use Rattle.index.specs.declared.changed.Changed.{Changed}
 use Rattle.index.proofs.LawfulLaws.{lawful-but-one}
+use Rattle.index.proofs.WayLaws.{too-long, not-too-long}
 use Rattle.index.proofs.HeadLaws.{Headed, headed, blocks, not-wrong, rest-of, reads-bad, writes-bad}
 
 -- a key that is too long
-too-long : (k : List ℕ) → keyLimit < length k → tooLong k ≡ true
-too-long k l = le-leb (suc keyLimit) (length k) l
-
-not-too-long : (k : List ℕ) → length k ≤ keyLimit → tooLong k ≡ false
-not-too-long k l = lt-leb (suc keyLimit) (length k) (omega arith)
-
 keyed-short : (k : List ℕ) (a : Answer) → length k ≤ keyLimit → keyed k a ≡ a
 keyed-short k a l = rw (not-too-long k l)
 
@@ -217,18 +212,18 @@ remove-long k st x h p g l =
     writes-key st h (headed st x h p g) k l removeKinds (λ m. storedAnswer (lookup k (m .map))) (λ m. withMap m (del k (m .map))) (changed-kind Changed.Key)
 
 -- What overwrite and remove come to, by the tree's value for the key, which some other tree takes the place of.
-pub record Changes (st : List ℕ) (cap : ℕ) (c : Change) : Type 0 where
+pub record Changes (st : List ℕ) (cap : ℕ) (c : Outcome Changed) : Type 0 where
   pub keeps : Keeps cap st (c .bytes)
   pub refused : 10 ≤ changedReply (c .answer) .answer → c .bytes ≡ st
 
 -- the answer, where the tree has the key or has it not, and the store after it
-abbrev pub Means-by : (st : List ℕ) (k : List ℕ) (o after : Option Tree) → Change → Type 0
+abbrev pub Means-by : (st : List ℕ) (k : List ℕ) (o after : Option Tree) → Outcome Changed → Type 0
 Means-by st k o after c =
     (changedReply (c .answer) ≡ alone (storedAnswer (getRoot k o)))
     × (getRoot k o ≢ none → ((i : ℕ) → i < used (c .bytes) → getD (c .bytes) i 0 < 256) → Wrote layout lawful st (c .bytes) after)
 
 module _ (k st st′ : List ℕ) (x : Head) (h : Header) (p : x ≡ headOf st) (g : x ≡ Good h) (short : length k ≤ keyLimit) (exit : (i : ℕ) → Fits w8 (getD st′ i 0))
-    (c : Change) (changes : Changes st (h .capacity) c) (r : Changed) (d : DidChange c r st′) (n : Meaning → Meaning)
+    (c : Outcome Changed) (changes : Changes st (h .capacity) c) (r : Changed) (d : Did c r st′) (n : Meaning → Meaning)
     (after-of : (m : Meaning) → Means layout st m → Option Tree)
     (says : (m : Meaning) (w : Means layout st m) → Means-by st k (w .tree) (after-of m w) c)
     (maps : (m : Meaning) (w : Means layout st m) → getRoot k (w .tree) ≢ none → Wrote layout lawful st st′ (after-of m w) → Means layout st′ (n m)) where
@@ -269,7 +264,7 @@ module _ (k st st′ : List ℕ) (x : Head) (h : Header) (p : x ≡ headOf st) (
   }
 
 -- a change that is done, or is none
-no-change : (st : List ℕ) (cap : ℕ) (a : Changed) → Changes st cap (change a st)
+no-change : (st : List ℕ) (cap : ℕ) (a : Changed) → Changes st cap (outcome a st)
 no-change st cap a = record { keeps = keeps-refl cap st; refused = λ l. refl }
 
 stored-closest : (k : List ℕ) (t : Tree) → Picture t → getT k t ≢ none → k ≡ closest k t .key
@@ -320,7 +315,7 @@ module _ (k st st′ : List ℕ) (x : Head) (h : Header) (p : x ≡ headOf st) (
   stands : Stands (h .capacity) (findIn st h k)
   stands = find-stands st h k (its-key .bytes)
 
-  pub overwrite-done : (v : ℕ) → Fits w32 v → DidChange (overwrittenIn st h k v) r st′ → Overwrite layout k v st st′ (changedReply r)
+  pub overwrite-done : (v : ℕ) → Fits w32 v → Did (overwrittenIn st h k v) r st′ → Overwrite layout k v st st′ (changedReply r)
   overwrite-done v f d =
       change-done k st st′ x h p g short exit (overwrittenIn st h k v) (overwrite-changes st (h .capacity) v (findIn st h k) stands) r d (λ m. withMap m (put k v (m .map)))
       (λ m w. setRoot k v (w .tree))
@@ -329,10 +324,10 @@ module _ (k st st′ : List ℕ) (x : Head) (h : Header) (p : x ≡ headOf st) (
 
 -- ---- remove
 
-taken-changes : (st : List ℕ) (cap : ℕ) (fits : start cap ≤ length st) (t : Taken) → DecentCut st cap fits t → Changes st cap (takenOut t)
-taken-changes st cap fits t q = record { keeps = q .keeps; refused = λ l. go (t .done) refl l }
+taken-changes : (st : List ℕ) (cap : ℕ) (fits : start cap ≤ length st) (t : Outcome Bool) → DecentCut st cap fits t → Changes st cap (takenOut t)
+taken-changes st cap fits t q = record { keeps = q .keeps; refused = λ l. go (t .answer) refl l }
   where
-    go : (b : Bool) → t .done ≡ b → 10 ≤ changedReply (cond b Changed.Done Changed.Store) .answer → t .bytes ≡ st
+    go : (b : Bool) → t .answer ≡ b → 10 ≤ changedReply (cond b Changed.Done Changed.Store) .answer → t .bytes ≡ st
     go true e l = absurd (omega arith)
     go false e l = q .refused e
 
@@ -360,14 +355,14 @@ remove-by st k (some t) a = go (getT k t) refl (find-means st k (some t) a)
 
 module _ (k st st′ : List ℕ) (x : Head) (h : Header) (p : x ≡ headOf st) (g : x ≡ Good h) (short : length k ≤ keyLimit) (bytes : (i : ℕ) → Fits w8 (getD k i 0))
     (exit : (i : ℕ) → Fits w8 (getD st′ i 0)) (r : Changed) where
-  pub remove-done : DidChange (removedIn st h k) r st′ → Remove layout k st st′ (changedReply r)
+  pub remove-done : Did (removedIn st h k) r st′ → Remove layout k st st′ (changedReply r)
   remove-done d =
       change-done k st st′ x h p g short exit (removedIn st h k) (remove-changes st h (blocks st x h p g) (findIn st h k) (find-stands st h k (bytes-of k bytes))) r d (λ m. withMap m (del k (m .map)))
       (λ m w. removeRoot k (w .tree))
       (λ m w. subst (λ (z : Header). Means-by st k (w .tree) (removeRoot k (w .tree)) (removedIn st z k)) (sym (headed st x h p g .right .is)) (remove-by st k (w .tree) (w .accepted)))
       (λ m w n u. remove-after layout lawful st st′ m k w u)
 
--- ---- behind the tests
+-- ---- what a lookup found lies in the store
 
 pub found-room : (st : List ℕ) (h : Header) (z : Exact) (n : LeafNo) (s : Step) → start (h .capacity) ≤ length st → Stands (h .capacity) z → z ≡ Exact.Leaf n s → Room st (n .0)
 found-room st h z n s fits q e = block-in st (h .capacity) (n .0) fits (subst (Stands (h .capacity)) e q .0)
@@ -380,38 +375,3 @@ found-at cap z n s q e = subst (Stands cap) e q .1
 
 pub found-above : (cap : ℕ) (z : Exact) (n : LeafNo) (s : Step) → Stands cap z → z ≡ Exact.Leaf n s → Within cap (s .above)
 found-above cap z n s q e = subst (Stands cap) e q .2
-
-pub found-got : (st : List ℕ) (h : Header) (k : List ℕ) (z : Exact) (n : LeafNo) (s : Step) (v : ℕ) → z ≡ findIn st h k → z ≡ Exact.Leaf n s → v ≡ leafIn st (n .0) .value → Got.Value v ≡ gotIn st h k
-found-got st h k z n s v p e q = ap Got.Value q ∙ ap (gotOf st) (sym e ∙ p)
-
-pub absent-got : (st : List ℕ) (h : Header) (k : List ℕ) (z : Exact) → z ≡ findIn st h k → z ≡ Exact.Absent → Got.Absent ≡ gotIn st h k
-absent-got st h k z p e = ap (gotOf st) (sym e ∙ p)
-
-pub wrong-got : (st : List ℕ) (h : Header) (k : List ℕ) (z : Exact) → z ≡ findIn st h k → z ≡ Exact.Wrong → Got.Store ≡ gotIn st h k
-wrong-got st h k z p e = ap (gotOf st) (sym e ∙ p)
-
-pub found-overwritten : (st st′ : List ℕ) (h : Header) (k : List ℕ) (v : ℕ) (z : Exact) (n : LeafNo) (s : Step) → z ≡ findIn st h k → z ≡ Exact.Leaf n s → st′ ≡ setValue st (n .0) v
-    → DidChange (overwrittenIn st h k v) Changed.Done st′
-found-overwritten st st′ h k v z n s p e q = subst (λ (y : Exact). DidChange (overwritten st v y) Changed.Done st′) (sym e ∙ p) (refl, q)
-
-pub absent-overwritten : (st : List ℕ) (h : Header) (k : List ℕ) (v : ℕ) (z : Exact) → z ≡ findIn st h k → z ≡ Exact.Absent → DidChange (overwrittenIn st h k v) Changed.Absent st
-absent-overwritten st h k v z p e = subst (λ (y : Exact). DidChange (overwritten st v y) Changed.Absent st) (sym e ∙ p) (refl, refl)
-
-pub wrong-overwritten : (st : List ℕ) (h : Header) (k : List ℕ) (v : ℕ) (z : Exact) → z ≡ findIn st h k → z ≡ Exact.Wrong → DidChange (overwrittenIn st h k v) Changed.Store st
-wrong-overwritten st h k v z p e = subst (λ (y : Exact). DidChange (overwritten st v y) Changed.Store st) (sym e ∙ p) (refl, refl)
-
-pub found-removed : (st st′ : List ℕ) (h : Header) (k : List ℕ) (z : Exact) (n : LeafNo) (s : Step) (b : Bool) → z ≡ findIn st h k → z ≡ Exact.Leaf n s
-    → DidTake (removeUnder st h (n .0) (s .at) (s .above)) b st′ → b ≡ true → DidChange (removedIn st h k) Changed.Done st′
-found-removed st st′ h k z n s b p e q t =
-    subst (λ (y : Exact). DidChange (removed st h y) Changed.Done st′) (sym e ∙ p) (ap (λ (y : Bool). cond y Changed.Done Changed.Store) (sym t ∙ q .0), q .1)
-
-pub unfit-removed : (st st′ : List ℕ) (h : Header) (k : List ℕ) (z : Exact) (n : LeafNo) (s : Step) (b : Bool) → z ≡ findIn st h k → z ≡ Exact.Leaf n s
-    → DidTake (removeUnder st h (n .0) (s .at) (s .above)) b st′ → b ≡ false → DidChange (removedIn st h k) Changed.Store st′
-unfit-removed st st′ h k z n s b p e q t =
-    subst (λ (y : Exact). DidChange (removed st h y) Changed.Store st′) (sym e ∙ p) (ap (λ (y : Bool). cond y Changed.Done Changed.Store) (sym t ∙ q .0), q .1)
-
-pub absent-removed : (st : List ℕ) (h : Header) (k : List ℕ) (z : Exact) → z ≡ findIn st h k → z ≡ Exact.Absent → DidChange (removedIn st h k) Changed.Absent st
-absent-removed st h k z p e = subst (λ (y : Exact). DidChange (removed st h y) Changed.Absent st) (sym e ∙ p) (refl, refl)
-
-pub wrong-removed : (st : List ℕ) (h : Header) (k : List ℕ) (z : Exact) → z ≡ findIn st h k → z ≡ Exact.Wrong → DidChange (removedIn st h k) Changed.Store st
-wrong-removed st h k z p e = subst (λ (y : Exact). DidChange (removed st h y) Changed.Store st) (sym e ∙ p) (refl, refl)

@@ -6,3 +6,6 @@ pub mod Contracts
 pub mod CallLaws
 pub mod CheckLaws
 pub mod HeadLaws
+pub mod WayLaws
+pub mod UnreadLaws
+pub mod Theorems

@@ -12,18 +12,13 @@ use lib.Seq.{getD-take}
 use borrow.Author.Tests.{le-leb, lt-leb}
 use Rattle.model.specs.Numbers.{headerSize, blockSize, leastSize, capacityOf, used}
 use Rattle.model.specs.Picture.{Tree}
-use Rattle.fields.specs.Part.{part}
 use Rattle.fields.specs.Number.{little}
-use Rattle.fields.proofs.PartLaws.{part-agree}
 use Rattle.fields.proofs.NumberLaws.{little-agree}
-use Rattle.sparse_array.specs.Array.{size}
-use Rattle.node.specs.Layout.{start, arrayAt, sizeAt, valueAt}
 use Rattle.node.specs.Header.{markIn, headIn, headOf}
-use Rattle.node.specs.Leaf.{keySize, leafIn}
-use Rattle.node.specs.Branch.{arrayIn}
 use Rattle.node.specs.declared.header.Head.the-variants.{Good}
 use Rattle.trie.specs.Accepted.{Accepted}
-use Rattle.trie.proofs.AcceptedLaws.{capacity-is}
+use Rattle.trie.proofs.AcceptedLaws.{right, capacity-is}
+use Rattle.trie.proofs.UnreadLaws.{Alike, leaf-alike, array-alike}
 use Rattle.index.proofs.SameLaws.{same-accepted}
 
 -- bytes of the same start
@@ -79,31 +74,9 @@ module _ (st su : List ℕ) (e : used st ≡ used su) (p : take (used st) st ≡
   pub headIn-same : headIn st ≡ headIn su
   headIn-same = head-same st su same-start
 
-  -- the records below the capacity
-  module _ (n : ℕ) (h : n < capacityOf (length st)) where
-    inside-st : start n + blockSize ≤ used st
-    inside-st = omega arith
-
-    long-st : start n + blockSize ≤ length st
-    long-st = omega arith
-
-    long-su : start n + blockSize ≤ length su
-    long-su = omega (arith, capacity-same)
-
-    pub leaf-same : leafIn su n ≡ leafIn st n
-    unfolding leafIn
-    leaf-same =
-        let s : getD su (sizeAt n) 0 ≡ getD st (sizeAt n) 0 = sym (same (sizeAt n) (omega (arith, inside-st))) in
-        let z : ℕ = keySize (getD st (sizeAt n) 0) in
-        let k : part su (start n) z ≡ part st (start n) z = part-agree su st (start n) (start n) z (omega (arith, long-su)) (omega (arith, long-st)) (λ i l. sym (same (start n + i) (omega (arith, inside-st)))) in
-        let v : little 4 su (valueAt n) ≡ little 4 st (valueAt n) = little-agree 4 su st (valueAt n) (valueAt n) (λ i l. sym (same (valueAt n + i) (omega (arith, inside-st)))) in
-        let x : little 2 su (valueAt n) ≡ little 2 st (valueAt n) = little-agree 2 su st (valueAt n) (valueAt n) (λ i l. sym (same (valueAt n + i) (omega (arith, inside-st)))) in
-        rw (s, k, v, x)
-
-    pub array-same : arrayIn su n ≡ arrayIn st n
-    unfolding arrayIn
-    array-same =
-        part-agree su st (arrayAt n) (arrayAt n) size (omega (arith, long-su)) (omega (arith, long-st)) (λ i l. sym (same (arrayAt n + i) (omega (arith, inside-st))))
+  -- the blocks
+  pub alike : leastSize ≤ length st → Alike (capacityOf (length st)) st su
+  alike long = record { left = omega arith; right = omega (arith, capacity-same); same = p ∙ ap (λ (n : ℕ). take n su) (sym e) }
 
   -- what is accepted
   pub accepted-same : (o : Option Tree) → Accepted st o → Accepted su o
@@ -111,8 +84,8 @@ module _ (st su : List ℕ) (e : used st ≡ used su) (p : take (used st) st ≡
       same-accepted st su (headIn st .limit)
       (record {
         head = headIn-same;
-        leaf = λ n h. leaf-same n (omega (arith, capacity-is st o a));
-        array = λ n h. array-same n (omega (arith, capacity-is st o a));
+        leaf = λ n h. leaf-alike (alike (right st o a .long)) n (omega (arith, capacity-is st o a));
+        array = λ n h. array-alike (alike (right st o a .long)) n (omega (arith, capacity-is st o a));
       })
       o a
       (λ i h. subst (λ (z : ℕ). z < 256) (same i (omega (arith, e))) (a .bytes i (omega (arith, e))))

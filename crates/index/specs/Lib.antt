@@ -1,3 +1,3 @@
 pub mod Layout
 pub mod Replies
-pub mod Inner
+pub mod Calls

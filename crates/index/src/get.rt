@@ -12,7 +12,7 @@ ghost use Rattle.node.specs.Layout.{start};
 ghost use Rattle.promises.specs.Promises.{Get};
 ghost use Rattle.index.specs.Layout.{layout};
 ghost use Rattle.index.specs.Replies.{getReply};
-ghost use Rattle.index.specs.Inner.{gotIn};
+ghost use Rattle.index.specs.Calls.{refusedGet, gotIn, getCall};
 
 pub enum Got {
     Value(u32),
@@ -24,19 +24,31 @@ pub enum Got {
     Absent,
 }
 
-fn get_in(store: &[u8], h: Header, key: &[u8]) -> Got
-    requires { ⌜ start (h .capacity) ≤ length (now store) ⌝ }
-    ensures { λ r. ⌜ r ≡ gotIn (now (store .entry)) h (now (key .entry)) ⌝ }
+// What a lookup that found nothing is answered with.
+fn refused(found: Exact) -> Got
+    ensures { λ r. ⌜ r ≡ refusedGet found ⌝ }
 {
-    match find_exact_leaf(store, h, key) {
-        Exact::Leaf(n, _step) => Got::Value(node::leaf::value(store, n)),
+    match found {
         Exact::Absent => Got::Absent,
+        Exact::Leaf(_n, _step) => Got::Store,
         Exact::Wrong => Got::Store,
     }
 }
 
+fn get_in(store: &[u8], h: Header, key: &[u8]) -> Got
+    requires { ⌜ start (h .capacity) ≤ length (now store) ⌝ }
+    ensures { λ r. ⌜ r ≡ gotIn (now (store .entry)) h (now (key .entry)) ⌝ }
+{
+    let found = find_exact_leaf(store, h, key);
+    let Exact::Leaf(n, _step) = found else {
+        return refused(found);
+    };
+    Got::Value(node::leaf::value(store, n))
+}
+
 pub fn get(store: &[u8], key: &[u8]) -> Got
-    ensures { λ r. ⌜ Get layout (now (key .entry)) (now (store .entry)) (getReply r) ⌝ }
+    ensures promise { λ r. ⌜ Get layout (now (key .entry)) (now (store .entry)) (getReply r) ⌝ }
+    ensures is { λ r. ⌜ r ≡ getCall (now (key .entry)) (now (store .entry)) ⌝ }
 {
     let Head::Good(h) = read_head(store) else {
         return Got::Store;

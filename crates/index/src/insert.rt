@@ -4,9 +4,11 @@ use node::header::read_head;
 use node::layout::KEY_LIMIT;
 use trie::insert::Put;
 ghost use mathlib.Core.Path.{_≡_};
+ghost use Rattle.trie.specs.Writes.{Did};
 ghost use Rattle.promises.specs.Promises.{Insert};
 ghost use Rattle.index.specs.Layout.{layout};
 ghost use Rattle.index.specs.Replies.{insertReply, insertedOf};
+ghost use Rattle.index.specs.Calls.{insertCall};
 
 pub enum Inserted {
     New,
@@ -34,7 +36,8 @@ fn named(put: Put) -> Inserted
 }
 
 pub fn insert(store: &mut [u8], key: &[u8], value: u32) -> Inserted
-    ensures { λ r. ⌜ Insert layout (now (key .entry)) value (now (store .entry)) (now (store .exit)) (insertReply r) ⌝ }
+    ensures promise { λ r. ⌜ Insert layout (now (key .entry)) value (now (store .entry)) (now (store .exit)) (insertReply r) ⌝ }
+    ensures is { λ r. ⌜ Did (insertCall (now (key .entry)) value (now (store .entry))) r (now (store .exit)) ⌝ }
 {
     let Head::Good(h) = read_head(store) else {
         return Inserted::Store;

@@ -5,6 +5,7 @@ ghost use mathlib.Core.Path.{_≡_};
 ghost use Rattle.promises.specs.Promises.{IsEmpty};
 ghost use Rattle.index.specs.Layout.{layout};
 ghost use Rattle.index.specs.Replies.{emptyOf, emptyReply};
+ghost use Rattle.index.specs.Calls.{emptyCall};
 
 pub enum Empty {
     Yes,
@@ -20,10 +21,11 @@ fn empty_of(leaves: u16) -> Empty
 }
 
 pub fn is_empty(store: &[u8]) -> Empty
-    ensures { λ r. ⌜ IsEmpty layout (now (store .entry)) (emptyReply r) ⌝ }
+    ensures promise { λ r. ⌜ IsEmpty layout (now (store .entry)) (emptyReply r) ⌝ }
+    ensures is { λ r. ⌜ r ≡ emptyCall (now (store .entry)) ⌝ }
 {
-    match read_head(store) {
-        Head::Good(h) => empty_of(h.leaves),
-        Head::Bad => Empty::Store,
-    }
+    let Head::Good(h) = read_head(store) else {
+        return Empty::Store;
+    };
+    empty_of(h.leaves)
 }

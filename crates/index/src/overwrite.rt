@@ -1,5 +1,6 @@
 // A stored key gets another value.
 use crate::changed::Changed;
+use crate::changed::refused;
 use node::header::Head;
 use node::header::Header;
 use node::header::read_head;
@@ -10,27 +11,27 @@ ghost use mathlib.Core.Path.{_≡_};
 ghost use Prim.Native.Nat.{_≤_};
 ghost use lib.ListN.{length};
 ghost use Rattle.node.specs.Layout.{start};
+ghost use Rattle.trie.specs.Writes.{Did};
 ghost use Rattle.promises.specs.Promises.{Overwrite};
 ghost use Rattle.index.specs.Layout.{layout};
 ghost use Rattle.index.specs.Replies.{changedReply};
-ghost use Rattle.index.specs.Inner.{DidChange, overwrittenIn};
+ghost use Rattle.index.specs.Calls.{overwrittenIn, overwriteCall};
 
 fn overwrite_in(store: &mut [u8], h: Header, key: &[u8], value: u32) -> Changed
     requires { ⌜ start (h .capacity) ≤ length (now store) ⌝ }
-    ensures { λ r. ⌜ DidChange (overwrittenIn (now (store .entry)) h (now (key .entry)) value) r (now (store .exit)) ⌝ }
+    ensures { λ r. ⌜ Did (overwrittenIn (now (store .entry)) h (now (key .entry)) value) r (now (store .exit)) ⌝ }
 {
-    match find_exact_leaf(store, h, key) {
-        Exact::Leaf(n, _step) => {
-            node::leaf::set_value(store, n, value);
-            Changed::Done
-        }
-        Exact::Absent => Changed::Absent,
-        Exact::Wrong => Changed::Store,
-    }
+    let found = find_exact_leaf(store, h, key);
+    let Exact::Leaf(n, _step) = found else {
+        return refused(found);
+    };
+    node::leaf::set_value(store, n, value);
+    Changed::Done
 }
 
 pub fn overwrite(store: &mut [u8], key: &[u8], value: u32) -> Changed
-    ensures { λ r. ⌜ Overwrite layout (now (key .entry)) value (now (store .entry)) (now (store .exit)) (changedReply r) ⌝ }
+    ensures promise { λ r. ⌜ Overwrite layout (now (key .entry)) value (now (store .entry)) (now (store .exit)) (changedReply r) ⌝ }
+    ensures is { λ r. ⌜ Did (overwriteCall (now (key .entry)) value (now (store .entry))) r (now (store .exit)) ⌝ }
 {
     let Head::Good(h) = read_head(store) else {
         return Changed::Store;

@@ -1,5 +1,6 @@
 // A stored key is taken out.
 use crate::changed::Changed;
+use crate::changed::refused;
 use node::header::Head;
 use node::header::Header;
 use node::header::read_head;
@@ -11,32 +12,31 @@ ghost use Prim.Native.Nat.{_≤_};
 ghost use lib.ListN.{length};
 ghost use Rattle.model.specs.Numbers.{most};
 ghost use Rattle.node.specs.Layout.{start};
+ghost use Rattle.trie.specs.Writes.{Did};
 ghost use Rattle.promises.specs.Promises.{Remove};
 ghost use Rattle.index.specs.Layout.{layout};
 ghost use Rattle.index.specs.Replies.{changedReply};
-ghost use Rattle.index.specs.Inner.{DidChange, removedIn};
+ghost use Rattle.index.specs.Calls.{removedIn, removeCall};
 
 fn remove_in(store: &mut [u8], h: Header, key: &[u8]) -> Changed
     requires { ⌜ (start (h .capacity) ≤ length (now store)) × (h .capacity ≤ most) ⌝ }
-    ensures { λ r. ⌜ DidChange (removedIn (now (store .entry)) h (now (key .entry))) r (now (store .exit)) ⌝ }
+    ensures { λ r. ⌜ Did (removedIn (now (store .entry)) h (now (key .entry))) r (now (store .exit)) ⌝ }
 {
-    match find_exact_leaf(store, h, key) {
-        Exact::Leaf(n, step) => {
-            let at = step.at;
-            let above = step.above;
-            if trie::remove::remove(store, h, n, at, above) {
-                Changed::Done
-            } else {
-                Changed::Store
-            }
-        }
-        Exact::Absent => Changed::Absent,
-        Exact::Wrong => Changed::Store,
+    let found = find_exact_leaf(store, h, key);
+    let Exact::Leaf(n, step) = found else {
+        return refused(found);
+    };
+    let at = step.at;
+    let above = step.above;
+    if trie::remove::remove(store, h, n, at, above) {
+        return Changed::Done;
     }
+    Changed::Store
 }
 
 pub fn remove(store: &mut [u8], key: &[u8]) -> Changed
-    ensures { λ r. ⌜ Remove layout (now (key .entry)) (now (store .entry)) (now (store .exit)) (changedReply r) ⌝ }
+    ensures promise { λ r. ⌜ Remove layout (now (key .entry)) (now (store .entry)) (now (store .exit)) (changedReply r) ⌝ }
+    ensures is { λ r. ⌜ Did (removeCall (now (key .entry)) (now (store .entry))) r (now (store .exit)) ⌝ }
 {
     let Head::Good(h) = read_head(store) else {
         return Changed::Store;

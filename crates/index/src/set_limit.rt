@@ -8,9 +8,11 @@ ghost use Prim.Native.Nat.{_≤_};
 ghost use lib.ListN.{length};
 ghost use Rattle.model.specs.Numbers.{headerSize};
 ghost use Rattle.node.specs.Header.{setHead};
+ghost use Rattle.trie.specs.Writes.{Did};
 ghost use Rattle.promises.specs.Promises.{SetLimit};
 ghost use Rattle.index.specs.Layout.{layout, withLimit};
 ghost use Rattle.index.specs.Replies.{limitReply};
+ghost use Rattle.index.specs.Calls.{limitCall};
 
 pub enum Limited {
     Done,
@@ -36,13 +38,12 @@ fn put_limit(store: &mut [u8], h: Header, limit: u16)
 }
 
 pub fn set_limit(store: &mut [u8], limit: u16) -> Limited
-    ensures { λ r. ⌜ SetLimit layout limit (now (store .entry)) (now (store .exit)) (limitReply r) ⌝ }
+    ensures promise { λ r. ⌜ SetLimit layout limit (now (store .entry)) (now (store .exit)) (limitReply r) ⌝ }
+    ensures is { λ r. ⌜ Did (limitCall limit (now (store .entry))) r (now (store .exit)) ⌝ }
 {
-    match read_head(store) {
-        Head::Good(h) => {
-            put_limit(store, h, limit);
-            Limited::Done
-        }
-        Head::Bad => Limited::Store,
-    }
+    let Head::Good(h) = read_head(store) else {
+        return Limited::Store;
+    };
+    put_limit(store, h, limit);
+    Limited::Done
 }

@@ -4,6 +4,7 @@ use crate::child::Link;
 use crate::child::Linked;
 use crate::child::item_of;
 use crate::child::link_of;
+use crate::layout::ARRAY;
 use crate::layout::array_at;
 use sparse_array::Got;
 ghost use mathlib.Core.Path.{_≡_};
@@ -23,7 +24,7 @@ pub fn array(store: &[u8], branch: BranchNo) -> &[u8]
 {
     let n = branch.0;
     let a = array_at(n);
-    let e = a + 55;
+    let e = a + ARRAY;
     &store[a..e]
 }
 
@@ -91,7 +92,7 @@ pub fn set_child(store: &mut [u8], branch: BranchNo, slot: u8, link: Link)
     let n = branch.0;
     let item = item_of(link);
     let a = array_at(n);
-    let e = a + 55;
+    let e = a + ARRAY;
     sparse_array::set(&mut store[a..e], slot, item);
 }
 
@@ -102,7 +103,7 @@ pub fn remove_child(store: &mut [u8], branch: BranchNo, slot: u8)
 {
     let n = branch.0;
     let a = array_at(n);
-    let e = a + 55;
+    let e = a + ARRAY;
     sparse_array::remove(&mut store[a..e], slot);
 }
 
@@ -125,6 +126,6 @@ pub fn make_branch(store: &mut [u8], branch: BranchNo, low: u8, first: Link, hig
     let x = item_of(first);
     let y = item_of(second);
     let a = array_at(n);
-    let e = a + 55;
+    let e = a + ARRAY;
     make_two(&mut store[a..e], low, x, high, y);
 }

@@ -6,6 +6,8 @@ use crate::branch::child_count;
 use crate::child::BranchNo;
 use crate::child::LeafNo;
 use crate::header::Header;
+use crate::layout::ARRAY;
+use crate::layout::FREE;
 use crate::layout::array_at;
 use crate::layout::size_at;
 use crate::layout::value_at;
@@ -40,7 +42,7 @@ pub fn is_free_leaf(store: &[u8], leaf: LeafNo) -> bool
 {
     let n = leaf.0;
     let a = size_at(n);
-    store[a] == 255
+    store[a] == FREE
 }
 
 pub fn is_free_branch(store: &[u8], branch: BranchNo) -> bool
@@ -131,7 +133,7 @@ pub fn free_leaf(store: &mut [u8], leaf: LeafNo, next: u16)
 {
     let n = leaf.0;
     let t = size_at(n);
-    write1(store, t, 255);
+    write1(store, t, FREE);
     let v = value_at(n);
     write2(store, v, next);
 }
@@ -152,7 +154,7 @@ pub fn free_branch(store: &mut [u8], branch: BranchNo, next: u16)
 {
     let n = branch.0;
     let a = array_at(n);
-    let e = a + 55;
+    let e = a + ARRAY;
     empty_array(&mut store[a..e], next);
 }
 

@@ -8,15 +8,14 @@ use crate::header::put_head;
 use crate::header::put_mark;
 use crate::layout::BLOCK;
 use crate::layout::HEAD;
+use crate::layout::LAST;
+use crate::layout::NO_ROOT;
 use crate::layout::capacity_of;
 ghost use mathlib.Core.Path.{_≡_};
 ghost use Prim.Native.Nat.{_≤_, _<_};
 ghost use lib.ListN.{length};
 ghost use Rattle.node.specs.Layout.{start};
 ghost use Rattle.node.specs.Create.{nextAfter, freedBelow, Created as WasCreated};
-
-// The root of an empty store: the item of no link.
-const NO_ROOT: u32 = 65535;
 
 pub enum Made {
     Done,
@@ -33,7 +32,7 @@ fn next_after(r: u16, capacity: u16) -> u16
     if n < capacity {
         return n;
     }
-    65535
+    LAST
 }
 
 // Every record of both kinds becomes free.

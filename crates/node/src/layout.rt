@@ -13,6 +13,18 @@ pub const BLOCK: usize = KEY_LIMIT + 64;
 
 pub const MOST: usize = 16384;
 
+// The bytes of a branch record's array.
+pub const ARRAY: usize = 55;
+
+// The length byte of a free leaf record.
+pub const FREE: u8 = 255;
+
+// Ends a chain of free records.
+pub const LAST: u16 = 65535;
+
+// The root of an empty store: the item of no link.
+pub const NO_ROOT: u32 = 65535;
+
 // The capacity of a slice of so many bytes.
 pub fn capacity_of(len: usize) -> u16
     ensures { λ r. ⌜ (r ≡ capacityOf len) × (r ≤ most) ⌝ }
@@ -40,11 +52,11 @@ pub fn array_at(n: u16) -> usize
 pub fn size_at(n: u16) -> usize
     ensures { λ r. ⌜ r ≡ sizeAt n ⌝ }
 {
-    start(n) + KEY_LIMIT + 55
+    start(n) + KEY_LIMIT + ARRAY
 }
 
 pub fn value_at(n: u16) -> usize
     ensures { λ r. ⌜ r ≡ valueAt n ⌝ }
 {
-    start(n) + KEY_LIMIT + 56
+    start(n) + KEY_LIMIT + ARRAY + 1
 }

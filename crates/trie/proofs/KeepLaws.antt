@@ -35,10 +35,10 @@ use Rattle.node.proofs.ChildLaws.{within}
 use Rattle.node.proofs.Frames.{OtherBlocks}
 use Rattle.node.proofs.HeaderLaws.{length-head, past-stays, block-in}
 use Rattle.node.proofs.RecordLaws.{leaf-written, value-written, leaf-freed, child-written, removal-written, branch-freed}
-use Rattle.trie.specs.Walk.{steps, step, onLinked, onNode, walk, near, first, Within, Lies, Sound}
-use Rattle.trie.specs.Find.{noStop, matched, onWalked, findFrom, findIn, Stands}
+use Rattle.trie.specs.Walk.{steps, step, linkIn, onLinked, onNode, walk, near, first, Within, Lies, Sound}
+use Rattle.trie.specs.Find.{noStop, findFrom, findIn, Stands}
 use Rattle.trie.specs.declared.find.Exact.{Exact}
-use Rattle.trie.specs.Writes.{withRoot, relinked, Outcome, outcome, onTaken, hung, joined, planted, forked, placed, putBeside, putNear, onClosest, putUnder, insertIn, emptied, shrunk, lifted, Taken, took, liftUnder, removeUnder}
+use Rattle.trie.specs.Writes.{withRoot, relinked, Outcome, outcome, onTaken, hung, joined, planted, forked, placed, putBeside, putNear, onClosest, putUnder, insertIn, emptied, shrunk, lifted, liftUnder, removeUnder}
 use Rattle.trie.specs.declared.insert.Put.{Put}
 use Rattle.trie.specs.declared.insert.Put.the-variants.{New, Replaced, Height, Full, Wrong}
 use Rattle.trie.specs.declared.descent.Spot.{Spot}
@@ -48,6 +48,7 @@ use Rattle.trie.specs.declared.descent.Walked.{Walked}
 use Rattle.trie.specs.declared.descent.Walked.the-variants.{At, Missing, Wrong as NoTree}
 use Rattle.trie.specs.declared.descent.Closest.{Closest}
 use Rattle.trie.specs.declared.descent.Closest.the-variants.{Leaf, Wrong as NoLeaf}
+use Rattle.trie.proofs.FindLaws.{walked-stands}
 use Rattle.trie.proofs.WalkLaws.{linked-below}
 use Rattle.trie.proofs.AddLaws.{joined-written}
 use Rattle.trie.proofs.PutLaws.{answerOf}
@@ -79,10 +80,10 @@ module _ (st : List ℕ) (cap : ℕ) (k : List ℕ) (bytes : Bytes k) where
   slot p = omega (arith, nibble-slot k p bytes)
 
   -- one step of a descent, from what the rest of it meets
-  module _ (stop f : ℕ) (s : Step) (rest : (m : Step) → numberIn (m .link .child) < cap → Within cap (m .at) → Within cap (m .above) → Lies cap (walk st cap k stop f m))
-      (h : numberIn (s .link .child) < cap) (i : Within cap (s .at)) (j : Within cap (s .above)) where
+  module _ (stop f : ℕ) (s : Step) (rest : (m : Step) → numberIn (m .child) < cap → Within cap (m .at) → Within cap (m .above) → Lies cap (walk st cap k stop f m))
+      (h : numberIn (s .child) < cap) (i : Within cap (s .at)) (j : Within cap (s .above)) where
     abbrev p : ℕ
-    p = s .link .position
+    p = s .position
 
     by-link : (b : BranchNo) → b .0 < cap → (l : Linked) → linkedIn cap (nibble k p) (childrenIn st (b .0)) ≡ l
         → Lies cap (onLinked (λ m. walk st cap k stop f (step m (Under b (nibble k p)) (s .at))) (Missing b (nibble k p)) NoTree l)
@@ -91,22 +92,22 @@ module _ (st : List ℕ) (cap : ℕ) (k : List ℕ) (bytes : Bytes k) where
     by-link b q WrongLink e = tt
 
     by-stop : (b : BranchNo) → b .0 < cap → (o : Bool)
-        → Lies cap (cond o (At s) (onLinked (λ m. walk st cap k stop f (step m (Under b (nibble k p)) (s .at))) (Missing b (nibble k p)) NoTree (linkedIn cap (nibble k p) (childrenIn st (b .0)))))
-    by-stop b q true = (h, i, j)
+        → Lies cap (cond o (At (s .child) s) (onLinked (λ m. walk st cap k stop f (step m (Under b (nibble k p)) (s .at))) (Missing b (nibble k p)) NoTree (linkedIn cap (nibble k p) (childrenIn st (b .0)))))
+    by-stop b q true = (h, i, j, refl)
     by-stop b q false = by-link b q (linkedIn cap (nibble k p) (childrenIn st (b .0))) refl
 
     by-child : (c : Child) → numberIn c < cap
-        → Lies cap (onNode (λ n. At s) (λ b. cond (leb stop p) (At s) (onLinked (λ m. walk st cap k stop f (step m (Under b (nibble k p)) (s .at))) (Missing b (nibble k p)) NoTree (linkedIn cap (nibble k p) (childrenIn st (b .0))))) c)
-    by-child (LeafChild n) q = (h, i, j)
+        → Lies cap (onNode (λ n. At (s .child) s) (λ b. cond (leb stop p) (At (s .child) s) (onLinked (λ m. walk st cap k stop f (step m (Under b (nibble k p)) (s .at))) (Missing b (nibble k p)) NoTree (linkedIn cap (nibble k p) (childrenIn st (b .0))))) c)
+    by-child (LeafChild n) q = (h, i, j, refl)
     by-child (Branch b) q = by-stop b q (leb stop p)
 
-  pub walk-lies : (stop f : ℕ) (s : Step) → numberIn (s .link .child) < cap → Within cap (s .at) → Within cap (s .above) → Lies cap (walk st cap k stop f s)
+  pub walk-lies : (stop f : ℕ) (s : Step) → numberIn (s .child) < cap → Within cap (s .at) → Within cap (s .above) → Lies cap (walk st cap k stop f s)
   unfolding walk
   walk-lies stop zero s h i j = tt
-  walk-lies stop (suc f) s h i j = by-child stop f s (λ m q r t. walk-lies stop f m q r t) h i j (s .link .child) h
+  walk-lies stop (suc f) s h i j = by-child stop f s (λ m q r t. walk-lies stop f m q r t) h i j (s .child) h
 
   -- the closest leaf's record is one of the store's
-  abbrev Low : Closest → Type 0
+  abbrev pub Low : Closest → Type 0
   Low (Leaf n d) = n .0 < cap
   Low NoLeaf = Unit {0}
 
@@ -129,7 +130,7 @@ module _ (st : List ℕ) (cap : ℕ) (k : List ℕ) (bytes : Bytes k) where
 -- ---- insertion
 
 -- What holds of an insertion on any bytes.
-pub record Decent (cap : ℕ) (st : List ℕ) (r : Outcome) : Type 0 where
+pub record Decent (cap : ℕ) (st : List ℕ) (r : Outcome Put) : Type 0 where
   pub keeps : Keeps cap st (r .bytes)
   pub refused : 10 ≤ number (answerOf (r .answer)) → r .bytes ≡ st
 
@@ -177,7 +178,7 @@ module _ (st : List ℕ) (cap : ℕ) (fits : start cap ≤ length st) where
         let one : Keeps cap st (setLeaf st n k v) = keeps-leaf n i in
         let room : Room (setLeaf st n k v) b = block-in (setLeaf st n k v) cap b (still one) j in
         keeps-relink h (s .at) (toBranch b p)
-        (keeps-then one (keeps-block cap b j (joined-written (setLeaf st n k v) b (nibble k p) n r (s .link) room .1 .others))) w
+        (keeps-then one (keeps-block cap b j (joined-written (setLeaf st n k v) b (nibble k p) n r (linkIn s) room .1 .others))) w
 
     forked-decent : (h : Header) → h .capacity ≡ cap → (s : Step) (p r : ℕ) → Within cap (s .at) → Decent cap st (forked st h k v s p r)
     forked-decent h e s p r w =
@@ -195,7 +196,7 @@ module _ (st : List ℕ) (cap : ℕ) (fits : start cap ≤ length st) where
         go : (o : Bool) → Decent cap st (cond o (outcome Full st) (hung st h k v (Under b s)))
         go true = unchanged cap st Full
         go false = hung-decent h e (Under b s) l
-    placed-decent h e d p r (At s) l = go (leb (h .limit) d) (leb (h .capacity) (h .leaves))
+    placed-decent h e d p r (At c s) l = go (leb (h .limit) d) (leb (h .capacity) (h .leaves))
       where
         go : (o q : Bool) → Decent cap st (cond o (outcome Height st) (cond q (outcome Full st) (forked st h k v s p r)))
         go true q = unchanged cap st Height
@@ -237,14 +238,14 @@ module _ (st : List ℕ) (cap : ℕ) (fits : start cap ≤ length st) where
   -- ---- removal
 
   -- What holds of a removal on any bytes.
-  pub record DecentCut (r : Taken) : Type 0 where
+  pub record DecentCut (r : Outcome Bool) : Type 0 where
     pub keeps : Keeps cap st (r .bytes)
-    pub refused : r .done ≡ false → r .bytes ≡ st
+    pub refused : r .answer ≡ false → r .bytes ≡ st
 
-  no-cut : DecentCut (took false st)
+  no-cut : DecentCut (outcome false st)
   no-cut = record { keeps = keeps-refl cap st; refused = λ q. refl }
 
-  cut-done : (st′ : List ℕ) → Keeps cap st st′ → DecentCut (took true st′)
+  cut-done : (st′ : List ℕ) → Keeps cap st st′ → DecentCut (outcome true st′)
   cut-done st′ k = record { keeps = k; refused = λ q. absurd (let z : _≡_ {A = ℕ} 0 1 = cc in omega arith) }
 
   keeps-freed : (n x : ℕ) → n < cap → Keeps cap st (freeLeaf st n x)
@@ -261,7 +262,7 @@ module _ (st : List ℕ) (cap : ℕ) (fits : start cap ≤ length st) where
       room = block-in (freeLeaf st n (h .leaf)) cap (b .0) (still one) (w .0)
 
       go : (o : Bool) (l : Linked)
-          → DecentCut (cond o (onLinked (λ m. took true (lifted st h n (b .0) above m)) (took false st) (took false st) l) (took true (shrunk st h n (b .0) s)))
+          → DecentCut (cond o (onLinked (λ m. outcome true (lifted st h n (b .0) above m)) (outcome false st) (outcome false st) l) (outcome true (shrunk st h n (b .0) s)))
       go true (To m) =
           cut-done (lifted st h n (b .0) above m)
           (keeps-relink _ above m (keeps-then one (keeps-block cap (b .0) (w .0) (branch-freed (freeLeaf st n (h .leaf)) (b .0) room _ .others))) u)
@@ -274,24 +275,6 @@ module _ (st : List ℕ) (cap : ℕ) (fits : start cap ≤ length st) where
 -- ---- lookup
 
 -- what is found lies in the store, on any bytes
-module _ (st : List ℕ) (k : List ℕ) (bytes : Bytes k) (cap : ℕ) where
-  matched-stands : (s : Step) → numberIn (s .link .child) < cap → Within cap (s .at) → Within cap (s .above) → Stands cap (matched st k s)
-  matched-stands s h i j = by-child-of (s .link .child) h
-    where
-      by-order : (n : LeafNo) → n .0 < cap → {o : Ordering} → Ordered k (leafIn st (n .0) .key) o → Stands cap (onEqual o (Exact.Leaf n s) Exact.Absent)
-      by-order n q (before z) = tt
-      by-order n q (equal z) = (q, i, j)
-      by-order n q (after z) = tt
-
-      by-child-of : (c : Child) → numberIn c < cap → Stands cap (onNode (λ n. onEqual (order k (leafIn st (n .0) .key)) (Exact.Leaf n s) Exact.Absent) (λ b. Exact.Wrong) c)
-      by-child-of (LeafChild n) q = by-order n q (ordered k (leafIn st (n .0) .key))
-      by-child-of (Branch b) q = tt
-
-  walked-stands : (w : Walked) → Lies cap w → Stands cap (onWalked st k w)
-  walked-stands (At s) l = matched-stands s (l .0) (l .1) (l .2)
-  walked-stands (Missing b s) l = tt
-  walked-stands NoTree l = tt
-
 pub find-stands : (st : List ℕ) (h : Header) (k : List ℕ) → Bytes k → Stands (h .capacity) (findIn st h k)
 find-stands st h k bytes = go (eqb (h .leaves) 0) (linkOf (h .capacity) (h .root)) refl
   where
@@ -299,7 +282,7 @@ find-stands st h k bytes = go (eqb (h .leaves) 0) (linkOf (h .capacity) (h .root
         → Stands (h .capacity) (cond o Exact.Absent (onLinked (λ root. findFrom st (h .capacity) k root) Exact.Wrong Exact.Wrong l))
     go true l q = tt
     go false (To m) q =
-        walked-stands st k bytes (h .capacity) (walk st (h .capacity) k noStop steps (first m))
+        walked-stands st k (h .capacity) (walk st (h .capacity) k noStop steps (first m))
         (walk-lies st (h .capacity) k bytes noStop steps (first m) (within (h .capacity) (h .root) m q) tt tt)
     go false Absent q = tt
     go false WrongLink q = tt

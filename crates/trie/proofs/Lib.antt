@@ -2,6 +2,7 @@ pub mod KeyCode
 pub mod WalkLaws
 pub mod FindLaws
 pub mod WriteLaws
+pub mod UnreadLaws
 pub mod HeldLaws
 pub mod SeekLaws
 pub mod AcceptedLaws

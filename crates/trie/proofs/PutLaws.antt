@@ -63,7 +63,7 @@ answerOf Full = FULL
 answerOf Wrong = STORE
 
 -- What an insertion into a store that holds o comes to.
-pub record Inserts (st : List ℕ) (o : Option Tree) (k : List ℕ) (v : ℕ) (r : Outcome) : Type 0 where
+pub record Inserts (st : List ℕ) (o : Option Tree) (k : List ℕ) (v : ℕ) (r : Outcome Put) : Type 0 where
   pub answer : answerOf (r .answer) ≡ insertAnswer (headIn st .capacity) (headIn st .limit) k o
   pub refused : 10 ≤ number (answerOf (r .answer)) → r .bytes ≡ st
   pub limit : headIn (r .bytes) .limit ≡ headIn st .limit
@@ -319,7 +319,7 @@ module _ (st : List ℕ) (t : Tree) (acc : Accepted st (some t)) (k : List ℕ) 
     at-grow n l e (no f) = rw (le-leb cap (h .leaves) (omega arith)) (no-room (high true (leb (h .limit) d) (ap isGrow e) refl) (omega arith))
 
     at-fork : (u : Step) → isGrow (site y t) ≡ false → ((r : h .leaves < cap) → d < h .limit → Inserts st (some t) k v (forked st h k v u (y .place) (y .other)))
-        → Dec (d < h .limit) → Dec (h .leaves < cap) → Placed (Reached u)
+        → Dec (d < h .limit) → Dec (h .leaves < cap) → Placed (Reached (u .child) u)
     at-fork u g f (no l) r = rw (le-leb (h .limit) d (omega arith)) (too-high g (omega arith))
     at-fork u g f (yes l) (yes r) = rw (lt-leb (h .limit) d l, lt-leb cap (h .leaves) r) (f r l)
     at-fork u g f (yes l) (no r) = rw (lt-leb (h .limit) d l, le-leb cap (h .leaves) (omega arith)) (no-room (high false false g (lt-leb (h .limit) d l)) (omega arith))

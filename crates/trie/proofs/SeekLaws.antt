@@ -30,9 +30,9 @@ use Rattle.trie.proofs.HeldLaws.{Inside, inside-at, own, link-at, link-
 
 -- what a descent that began at the spot `at` ends at, by where the insertion writes
 abbrev pub Ends : New → Spot → Site → Walked → Type 0
-Ends x at (whole c) w = (above : Spot) × (w ≡ Reached (step (linkTo c) at above))
+Ends x at (whole c) w = (above : Spot) × (w ≡ Reached (linkTo c .child) (step (linkTo c) at above))
 Ends x at (grows n) w = w ≡ Missing (record { 0 = n }) (newSlot x)
-Ends x at (under n s c) w = (above : Spot) × (w ≡ Reached (step (linkTo c) (Under (record { 0 = n }) s) above))
+Ends x at (under n s c) w = (above : Spot) × (w ≡ Reached (linkTo c .child) (step (linkTo c) (Under (record { 0 = n }) s) above))
 
 module _ (st : List ℕ) (cap : ℕ) (few : cap ≤ most) (x : New) where
   abbrev I : Tree → Type 0
@@ -80,6 +80,6 @@ module _ (st : List ℕ) (cap : ℕ) (few : cap ≤ most) (x : New) where
       (λ n p ks ih h pic i near far low f s l e at above. go-branch n p ks h pic i near far ih low f s e at above (said (x .place) p))
     where
       at-leaf : (n low f : ℕ) → low ≤ 2 * keyLimit → 2 * keyLimit < f + low → (at above : Spot)
-          → (b : Spot) × (walk st cap (x .key) (x .place + 1) f (step (linkTo (toLeaf n)) at above) ≡ Reached (step (linkTo (toLeaf n)) at b))
+          → (b : Spot) × (walk st cap (x .key) (x .place + 1) f (step (linkTo (toLeaf n)) at above) ≡ Reached (linkTo (toLeaf n) .child) (step (linkTo (toLeaf n)) at b))
       at-leaf n low zero l e at above = absurd (omega arith)
       at-leaf n low (suc f) l e at above = (above, walk-leaf st cap (x .key) (x .place + 1) (step (linkTo (toLeaf n)) at above) f (record { 0 = n }) refl)

@@ -31,7 +31,7 @@ use Rattle.node.proofs.ChildLaws.{item-fits}
 use Rattle.node.proofs.HeaderLaws.{Fits, head-back, length-head, mark-stays, leaf-stays, array-stays, block-in}
 use Rattle.node.proofs.RecordLaws.{LeafWritten, leaf-freed, freed-size, freed-next, leaf-arrays, ArrayWritten, child-written, child-set, removal-written, child-removed, branch-freed, children-freed, after-freed, array-leaves}
 use Rattle.trie.specs.Accepted.{linkTo, Accepted}
-use Rattle.trie.specs.Writes.{withRoot, emptied, shrunk, lifted, Taken, took, removeUnder}
+use Rattle.trie.specs.Writes.{withRoot, emptied, shrunk, lifted, Outcome, outcome, removeUnder}
 use Rattle.trie.specs.declared.descent.Spot.{Spot}
 use Rattle.trie.specs.declared.descent.Spot.the-variants.{Root, Under}
 use Rattle.trie.specs.declared.descent.Step.{Step}
@@ -187,8 +187,8 @@ module _ (st : List ℕ) (cap a : ℕ) (w : Gives st cap a) where
               ∙ ap (λ z. insert s (itemTo c) (entries z)) (three .others .arrays n apart ∙ leaf-arrays one n)
 
 -- What a removal from a store that holds t comes to.
-pub record Removes (st : List ℕ) (t : Tree) (k : List ℕ) (r : Taken) : Type 0 where
-  pub done : r .done ≡ true
+pub record Removes (st : List ℕ) (t : Tree) (k : List ℕ) (r : Outcome Bool) : Type 0 where
+  pub done : r .answer ≡ true
   pub limit : headIn (r .bytes) .limit ≡ headIn st .limit
   pub size : length (r .bytes) ≡ length st
   pub accepted : ((i : ℕ) → i < used (r .bytes) → getD (r .bytes) i 0 < 256) → Accepted (r .bytes) (removeT k t)
@@ -227,7 +227,7 @@ module _ (st : List ℕ) (t : Tree) (acc : Accepted st (some t)) (k : List ℕ) 
     branch = f;
   }
 
-  removes : (st′ : List ℕ) → Took st st′ n (root t) (cut k t) → Removes st t k (took true st′)
+  removes : (st′ : List ℕ) → Took st st′ n (root t) (cut k t) → Removes st t k (outcome true st′)
   removes st′ w = record {
     done = refl;
     limit = ap (λ (z : Header). z .limit) (w .head);
@@ -265,6 +265,6 @@ module _ (st : List ℕ) (t : Tree) (acc : Accepted st (some t)) (k : List ℕ) 
       (less-fits (g .branches - 1) (g .root) f (omega arith) (root-fits st (some t) acc) (omega (arith, low)))
       (ap (λ (z : ℕ). withRoot (gave branchKind (gave leafKind g n) f) z) (acc .rooted)))))
 
-  -- Removal from an accepted store, where a lookup stood.
+  -- Outcome Bool from an accepted store, where a lookup stood.
   pub remove-means : (s : Step) → Stood st size-of low k (cut k t) Root Root s → Removes st t k (removeUnder st g n (s .at) (s .above))
   remove-means s w = by-cut (cut k t) refl s w

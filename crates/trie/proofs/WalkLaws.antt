@@ -1,10 +1,12 @@
 -- The descents over bytes, one step at a time, as the loops take them: `a` is the whole answer. Assumes nothing.
 use Prim.Native.Nat.{ℕ, zero, suc, _+_, _-_, _≤_, _<_}
 use mathlib.Core.Path.{_≡_, refl, sym, ap, _∙_}
+use mathlib.Core.Logic.{_⊎_, ⊎-elim}
 use mathlib.Core.List.{List}
 use mathlib.Core.Option.{Option, none, some}
 use native.Mathlib.Numerals.{sub-one}
 use native.Mathlib.Omega.{arith}
+use denote.Enum.Declared.{declared, tagOf}
 use borrow.Author.Tests.{le-leb, lt-leb}
 use lib.ListN.{length}
 use Rattle.model.specs.Nibble.{nibble, slotCount}
@@ -14,6 +16,7 @@ use Rattle.sparse_array.specs.Answers.{orElse}
 use Rattle.node.specs.Layout.{start, Room}
 use Rattle.node.specs.Branch.{childrenIn, linked, linkedIn, nearIn}
 use Rattle.node.proofs.ChildLaws.{within}
+use Rattle.node.proofs.child.Linked.{enum}
 use Rattle.node.proofs.HeaderLaws.{block-in}
 use Rattle.node.specs.declared.child.BranchNo.{BranchNo}
 use Rattle.node.specs.declared.child.LeafNo.{LeafNo}
@@ -30,21 +33,30 @@ use Rattle.trie.specs.declared.descent.Walked.the-variants.{At, Missing,
 use Rattle.trie.specs.declared.descent.Closest.{Closest}
 use Rattle.trie.specs.declared.descent.Closest.the-variants.{Leaf, Wrong as NoLeaf}
 
+-- What a `let Linked::To(..) = .. else` knows in its else: a slot led to no link.
+abbrev pub NoLink : Linked → Type 0
+NoLink l = (tagOf (declared enum) l ≡ 1) ⊎ (tagOf (declared enum) l ≡ 2)
+
+pub no-link : {A : Type 0} (to : Link → A) (a : A) (l : Linked) → NoLink l → onLinked to a a l ≡ a
+no-link to a (To l) n = absurd (⊎-elim (λ e. omega arith) (λ e. omega arith) n)
+no-link to a Absent n = refl
+no-link to a WrongLink n = refl
+
 module _ (st : List ℕ) (cap : ℕ) (k : List ℕ) where
   module _ (stop : ℕ) (s : Step) where
-    pub walk-leaf : (f : ℕ) (n : LeafNo) → s .link .child ≡ LeafChild n → walk st cap k stop (suc f) s ≡ At s
+    pub walk-leaf : (f : ℕ) (n : LeafNo) → s .child ≡ LeafChild n → walk st cap k stop (suc f) s ≡ At (s .child) s
     unfolding walk
     walk-leaf f n e = rw e
 
-    pub walk-stop : (f : ℕ) (b : BranchNo) → s .link .child ≡ Branch b → stop ≤ s .link .position → walk st cap k stop (suc f) s ≡ At s
+    pub walk-stop : (f : ℕ) (b : BranchNo) → s .child ≡ Branch b → stop ≤ s .position → walk st cap k stop (suc f) s ≡ At (s .child) s
     unfolding walk
-    walk-stop f b e h = rw (e, le-leb stop (s .link .position) h)
+    walk-stop f b e h = rw (e, le-leb stop (s .position) h)
 
-    pub walk-step : (f : ℕ) (b : BranchNo) → s .link .child ≡ Branch b → s .link .position < stop → (r : Linked) → r ≡ linkedIn cap (nibble k (s .link .position)) (childrenIn st (b .0))
+    pub walk-step : (f : ℕ) (b : BranchNo) → s .child ≡ Branch b → s .position < stop → (r : Linked) → r ≡ linkedIn cap (nibble k (s .position)) (childrenIn st (b .0))
         → walk st cap k stop (suc f) s
-        ≡ onLinked (λ l. walk st cap k stop f (step l (Under b (nibble k (s .link .position))) (s .at))) (Missing b (nibble k (s .link .position))) Wrong r
+        ≡ onLinked (λ l. walk st cap k stop f (step l (Under b (nibble k (s .position))) (s .at))) (Missing b (nibble k (s .position))) Wrong r
     unfolding walk
-    walk-step f b e h r q = rw (e, lt-leb stop (s .link .position) h, q)
+    walk-step f b e h r q = rw (e, lt-leb stop (s .position) h, q)
 
     module _ (a : Walked) where
       pub met-end : (f : ℕ) → walk st cap k stop f s ≡ a → f ≡ 0 → Wrong ≡ a
@@ -52,15 +64,15 @@ module _ (st : List ℕ) (cap : ℕ) (k : List ℕ) where
       met-end zero inv e = inv
       met-end (suc f) inv e = absurd (omega arith)
 
-      pub met-leaf : (f : ℕ) (n : LeafNo) → walk st cap k stop f s ≡ a → (f ≡ 0 → ⊥) → s .link .child ≡ LeafChild n → At s ≡ a
-      met-leaf zero n inv ne e = absurd (ne refl)
-      met-leaf (suc f) n inv ne e = sym (walk-leaf f n e) ∙ inv
+      pub met-leaf : (f : ℕ) (n : LeafNo) (c : Child) → walk st cap k stop f s ≡ a → (f ≡ 0 → ⊥) → s .child ≡ LeafChild n → c ≡ LeafChild n → At c s ≡ a
+      met-leaf zero n c inv ne e i = absurd (ne refl)
+      met-leaf (suc f) n c inv ne e i = ap (λ (z : Child). At z s) (i ∙ sym e) ∙ sym (walk-leaf f n e) ∙ inv
 
-      pub met-stop : (f : ℕ) (b : BranchNo) → walk st cap k stop f s ≡ a → (f ≡ 0 → ⊥) → s .link .child ≡ Branch b → stop ≤ s .link .position → At s ≡ a
-      met-stop zero b inv ne e h = absurd (ne refl)
-      met-stop (suc f) b inv ne e h = sym (walk-stop f b e h) ∙ inv
+      pub met-stop : (f : ℕ) (b : BranchNo) (c : Child) → walk st cap k stop f s ≡ a → (f ≡ 0 → ⊥) → s .child ≡ Branch b → c ≡ Branch b → stop ≤ s .position → At c s ≡ a
+      met-stop zero b c inv ne e i h = absurd (ne refl)
+      met-stop (suc f) b c inv ne e i h = ap (λ (z : Child). At z s) (i ∙ sym e) ∙ sym (walk-stop f b e h) ∙ inv
 
-      module _ (slot : ℕ) (is : slot ≡ nibble k (s .link .position)) (b : BranchNo) (e : s .link .child ≡ Branch b) (h : s .link .position < stop)
+      module _ (slot : ℕ) (is : slot ≡ nibble k (s .position)) (b : BranchNo) (e : s .child ≡ Branch b) (h : s .position < stop)
           (r : Linked) (q : r ≡ linkedIn cap slot (childrenIn st (b .0))) where
         stepped : (f : ℕ) → walk st cap k stop (suc f) s ≡ a → onLinked (λ l. walk st cap k stop f (step l (Under b slot) (s .at))) (Missing b slot) Wrong r ≡ a
         stepped f inv = rw is (sym (walk-step f b e h r (rw (← is) q)) ∙ inv)
@@ -76,6 +88,13 @@ module _ (st : List ℕ) (cap : ℕ) (k : List ℕ) where
         pub met-next : (f : ℕ) (l : Link) → walk st cap k stop f s ≡ a → (f ≡ 0 → ⊥) → r ≡ To l → walk st cap k stop (f - 1) (step l (Under b slot) (s .at)) ≡ a
         met-next zero l inv ne g = absurd (ne refl)
         met-next (suc f) l inv ne g = rw sub-one (rw g at (stepped f inv))
+
+-- the node met is the last step's
+pub same-leaf : (n : LeafNo) (c d : Child) → d ≡ LeafChild n → c ≡ LeafChild n → c ≡ d
+same-leaf n c d e i = i ∙ sym e
+
+pub same-branch : (b : BranchNo) (c d : Child) → d ≡ Branch b → c ≡ Branch b → c ≡ d
+same-branch b c d e i = i ∙ sym e
 
 -- ---- the closest descent
 

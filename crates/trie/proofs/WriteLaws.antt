@@ -36,12 +36,12 @@ use Rattle.node.specs.declared.child.Child.{Child}
 use Rattle.node.specs.declared.child.Child.the-variants.{Leaf as LeafChild, Branch}
 use Rattle.node.specs.declared.child.Link.{Link}
 use Rattle.node.specs.declared.child.Linked.{Linked}
-use Rattle.node.specs.declared.child.Linked.the-variants.{To, Absent as NoLink, Wrong as WrongLink}
+use Rattle.node.specs.declared.child.Linked.the-variants.{To}
 use Rattle.node.specs.declared.header.Header.{Header}
 use Rattle.node.proofs.HeaderLaws.{block-in}
-use Rattle.trie.proofs.WalkLaws.{linked-below}
-use Rattle.trie.specs.Walk.{steps, walk, near, first, Within, Lies, Sound}
-use Rattle.trie.specs.Writes.{withRoot, relinked, Outcome, outcome, Did, onTaken, hung, joined, planted, forked, placed, putBeside, putNear, onClosest, putUnder, insertIn, emptied, shrunk, lifted, Taken, took, DidTake, liftUnder, removeUnder}
+use Rattle.trie.proofs.WalkLaws.{NoLink, no-link, linked-below}
+use Rattle.trie.specs.Walk.{steps, linkIn, walk, near, first, Within, Lies, Sound}
+use Rattle.trie.specs.Writes.{withRoot, relinked, Outcome, outcome, Did, onTaken, hung, joined, planted, forked, placed, putBeside, putNear, onClosest, putUnder, insertIn, emptied, shrunk, lifted, liftUnder, removeUnder}
 use Rattle.trie.specs.declared.descent.Spot.{Spot}
 use Rattle.trie.specs.declared.descent.Spot.the-variants.{Root, Under}
 use Rattle.trie.specs.declared.descent.Step.{Step}
@@ -208,7 +208,7 @@ module _ (st : List ℕ) (h : Header) (t : TakenLeaf) (is : t ≡ takenLeaf st h
 
 -- ---- plant
 
-pub planted-bytes : (st : List ℕ) (h : Header) (k : List ℕ) (v n b : ℕ) (s : Step) (p r x : ℕ) (s₁ s₂ s₃ : List ℕ) → x ≡ nibble k p → s₁ ≡ setLeaf st n k v → s₂ ≡ joined s₁ b x n r (s .link)
+pub planted-bytes : (st : List ℕ) (h : Header) (k : List ℕ) (v n b : ℕ) (s : Step) (p r x : ℕ) (s₁ s₂ s₃ : List ℕ) → x ≡ nibble k p → s₁ ≡ setLeaf st n k v → s₂ ≡ joined s₁ b x n r (linkIn s)
     → s₃ ≡ relinked s₂ h (s .at) (toBranch b p) → s₃ ≡ planted st h k v n b s p r
 planted-bytes st h k v n b s p r x s₁ s₂ s₃ ex e₁ e₂ e₃ = e₃ ∙ rw (e₂, e₁, ex)
 
@@ -242,8 +242,8 @@ module _ (st : List ℕ) (h : Header) (k : List ℕ) (v d p r : ℕ) (w : Walked
   pub hang-bytes : (b : BranchNo) (s : ℕ) (st′ : List ℕ) → w ≡ Missing b s → h .leaves < h .capacity → st′ ≡ hung st h k v (Under b s) .bytes → st′ ≡ placed st h k v d p r w .bytes
   hang-bytes b s st′ e f q = q ∙ rw (e, lt-leb (h .capacity) (h .leaves) f)
 
-  module _ (s : Step) (e : w ≡ At s) where
-    pub step-below : Lies (h .capacity) w → numberIn (s .link .child) < h .capacity
+  module _ (c : Child) (s : Step) (e : w ≡ At c s) where
+    pub step-below : Lies (h .capacity) w → numberIn (s .child) < h .capacity
     step-below l = subst (Lies (h .capacity)) e l .0
 
     pub step-within : Lies (h .capacity) w → Within (h .capacity) (s .at)
@@ -320,10 +320,10 @@ module _ (st : List ℕ) (h : Header) (k : List ℕ) (v : ℕ) (root : Link) (n 
     whole = rw (ew, eo, is′, ec, is)
 
     pub beside-answer : (a : Put) → a ≡ placed st h k v d c o w .answer → a ≡ putBeside st h k v root n d .answer
-    beside-answer a g = g ∙ ap (λ (z : Outcome). z .answer) whole
+    beside-answer a g = g ∙ ap (λ (z : Outcome Put). z .answer) whole
 
     pub beside-bytes : (b : List ℕ) → b ≡ placed st h k v d c o w .bytes → b ≡ putBeside st h k v root n d .bytes
-    beside-bytes b g = g ∙ ap (λ (z : Outcome). z .bytes) whole
+    beside-bytes b g = g ∙ ap (λ (z : Outcome Put). z .bytes) whole
 
 -- ---- a key under a root
 
@@ -357,17 +357,11 @@ module _ (st : List ℕ) (h : Header) (k : List ℕ) (v : ℕ) where
     pub under-bytes : (m : Link) (b : List ℕ) → l ≡ To m → b ≡ putUnder st h k v m .bytes → b ≡ insertIn st h k v .bytes
     under-bytes m b e q = q ∙ rw (ne-eqb (h .leaves) 0 ne, ← is, e)
 
-    pub absent-answer : l ≡ NoLink → NoTree ≡ insertIn st h k v .answer
-    absent-answer e = rw (ne-eqb (h .leaves) 0 ne, ← is, e)
+    pub lost-root-answer : NoLink l → NoTree ≡ insertIn st h k v .answer
+    lost-root-answer n = rw (ne-eqb (h .leaves) 0 ne, ← is) (ap (λ (o : Outcome Put). o .answer) (sym (no-link (λ root. putUnder st h k v root) (outcome NoTree st) l n)))
 
-    pub absent-bytes : l ≡ NoLink → st ≡ insertIn st h k v .bytes
-    absent-bytes e = rw (ne-eqb (h .leaves) 0 ne, ← is, e)
-
-    pub broken-answer : l ≡ WrongLink → NoTree ≡ insertIn st h k v .answer
-    broken-answer e = rw (ne-eqb (h .leaves) 0 ne, ← is, e)
-
-    pub broken-bytes : l ≡ WrongLink → st ≡ insertIn st h k v .bytes
-    broken-bytes e = rw (ne-eqb (h .leaves) 0 ne, ← is, e)
+    pub lost-root-bytes : NoLink l → st ≡ insertIn st h k v .bytes
+    lost-root-bytes n = rw (ne-eqb (h .leaves) 0 ne, ← is) (ap (λ (o : Outcome Put). o .bytes) (sym (no-link (λ root. putUnder st h k v root) (outcome NoTree st) l n)))
 
 -- ---- removal
 
@@ -382,27 +376,21 @@ module _ (st : List ℕ) (h : Header) (n b s : ℕ) (above : Spot) (l : Linked) 
     pub gave-within : Within (h .capacity) above → Within (two .capacity) above
     gave-within w = rw (e₂, e₁) w
 
-    pub lift-done : (m : Link) → l ≡ To m → true ≡ liftUnder st h n b s above .done
+    pub lift-done : (m : Link) → l ≡ To m → true ≡ liftUnder st h n b s above .answer
     lift-done m e = rw (← is, e)
 
     pub lift-bytes : (m : Link) (s₁ s₂ s₃ : List ℕ) → l ≡ To m → s₁ ≡ leaves .freed st n (h .leaf) → s₂ ≡ branches .freed s₁ b (one .branch) → s₃ ≡ relinked s₂ two above m
         → s₃ ≡ liftUnder st h n b s above .bytes
     lift-bytes m s₁ s₂ s₃ e p q r = r ∙ rw (q, p, e₂, e₁, ← is, e)
 
-  pub lift-none : l ≡ NoLink → false ≡ liftUnder st h n b s above .done
-  lift-none e = rw (← is, e)
+  pub not-lifted : NoLink l → false ≡ liftUnder st h n b s above .answer
+  not-lifted m = rw (← is) (ap (λ (t : Outcome Bool). t .answer) (sym (no-link (λ x. outcome true (lifted st h n b above x)) (outcome false st) l m)))
 
-  pub lift-none-bytes : l ≡ NoLink → st ≡ liftUnder st h n b s above .bytes
-  lift-none-bytes e = rw (← is, e)
-
-  pub lift-wrong : l ≡ WrongLink → false ≡ liftUnder st h n b s above .done
-  lift-wrong e = rw (← is, e)
-
-  pub lift-wrong-bytes : l ≡ WrongLink → st ≡ liftUnder st h n b s above .bytes
-  lift-wrong-bytes e = rw (← is, e)
+  pub not-lifted-bytes : NoLink l → st ≡ liftUnder st h n b s above .bytes
+  not-lifted-bytes m = rw (← is) (ap (λ (t : Outcome Bool). t .bytes) (sym (no-link (λ x. outcome true (lifted st h n b above x)) (outcome false st) l m)))
 
 module _ (st : List ℕ) (h : Header) (n : ℕ) (at above : Spot) where
-  pub empty-done : at ≡ Root → true ≡ removeUnder st h n at above .done
+  pub empty-done : at ≡ Root → true ≡ removeUnder st h n at above .answer
   empty-done e = rw e
 
   pub empty-bytes : (g r : Header) (s₁ s₂ : List ℕ) → at ≡ Root → g ≡ gaveLeaf h n → r ≡ withRoot g noRoot → s₁ ≡ leaves .freed st n (h .leaf) → s₂ ≡ setHead s₁ r
@@ -420,13 +408,13 @@ module _ (st : List ℕ) (h : Header) (n : ℕ) (at above : Spot) where
     under-here f w = block-in st (h .capacity) (b .0) f (under-below w)
 
     module _ (c : ℕ) (ec : c ≡ length (childrenIn st (b .0))) where
-      pub lifts-done : (r : Bool) → c ≡ 2 → r ≡ liftUnder st h n (b .0) s above .done → r ≡ removeUnder st h n at above .done
+      pub lifts-done : (r : Bool) → c ≡ 2 → r ≡ liftUnder st h n (b .0) s above .answer → r ≡ removeUnder st h n at above .answer
       lifts-done r z q = q ∙ rw (e, eq-eqb (length (childrenIn st (b .0))) 2 (sym ec ∙ z))
 
       pub lifts-bytes : (t : List ℕ) → c ≡ 2 → t ≡ liftUnder st h n (b .0) s above .bytes → t ≡ removeUnder st h n at above .bytes
       lifts-bytes t z q = q ∙ rw (e, eq-eqb (length (childrenIn st (b .0))) 2 (sym ec ∙ z))
 
-      pub shrink-done : (c ≡ 2 → ⊥) → true ≡ removeUnder st h n at above .done
+      pub shrink-done : (c ≡ 2 → ⊥) → true ≡ removeUnder st h n at above .answer
       shrink-done z = rw (e, ne-eqb (length (childrenIn st (b .0))) 2 (λ q. z (ec ∙ q)))
 
       pub shrink-bytes : (g : Header) (s₁ s₂ s₃ : List ℕ) → (c ≡ 2 → ⊥) → g ≡ gaveLeaf h n → s₁ ≡ leaves .freed st n (h .leaf) → s₂ ≡ removeChild s₁ (b .0) s → s₃ ≡ setHead s₂ g

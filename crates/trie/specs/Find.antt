@@ -1,4 +1,4 @@
--- Exact lookup over the bytes of a store, on any bytes.
+-- Exact lookup over the bytes of a store, on any bytes. Assumes nothing.
 use Prim.Native.Nat.{ℕ, _<_}
 use mathlib.Core.Bool.{cond}
 use mathlib.Core.List.{List}
@@ -6,6 +6,7 @@ use lib.Dec.{eqb}
 use Rattle.model.specs.Key.{order, onEqual}
 use Rattle.node.specs.Child.{numberIn, linkOf}
 use Rattle.node.specs.Leaf.{leafIn}
+use Rattle.node.specs.declared.child.Child.{Child}
 use Rattle.node.specs.declared.child.Link.{Link}
 use Rattle.node.specs.declared.header.Header.{Header}
 use Rattle.trie.specs.Walk.{steps, onLinked, onNode, walk, first, Within}
@@ -20,11 +21,11 @@ abbrev pub noStop : ℕ
 noStop = 256
 
 -- the leaf met, if its key is the one looked for
-abbrev pub matched : List ℕ → List ℕ → Step → Exact
-matched st k s = onNode (λ n. onEqual (order k (leafIn st (n .0) .key)) (Leaf n s) Absent) (λ b. NoTree) (s .link .child)
+abbrev pub matched : List ℕ → List ℕ → Child → Step → Exact
+matched st k c s = onNode (λ n. onEqual (order k (leafIn st (n .0) .key)) (Leaf n s) Absent) (λ b. NoTree) c
 
 abbrev pub onWalked : List ℕ → List ℕ → Walked → Exact
-onWalked st k (At s) = matched st k s
+onWalked st k (At c s) = matched st k c s
 onWalked st k (Missing b s) = Absent
 onWalked st k Wrong = NoTree
 

@@ -1,5 +1,6 @@
--- The descents over the bytes of a store, on any bytes.
+-- The descents over the bytes of a store, on any bytes. Assumes nothing.
 use Prim.Native.Nat.{ℕ, zero, suc, _+_, _*_, _<_, _≤_}
+use mathlib.Core.Path.{_≡_}
 use mathlib.Core.Bool.{Bool, cond}
 use mathlib.Core.List.{List}
 use lib.Dec.{leb}
@@ -27,7 +28,11 @@ abbrev pub steps : ℕ
 steps = 2 * keyLimit + 1
 
 abbrev pub step : Link → Spot → Spot → Step
-step l at above = record { link = l; at = at; above = above }
+step l at above = record { child = l .child; position = l .position; at = at; above = above }
+
+-- the link that it went by
+abbrev pub linkIn : Step → Link
+linkIn s = record { child = s .child; position = s .position }
 
 -- the step before the first branch
 abbrev pub first : Link → Step
@@ -47,13 +52,13 @@ onNode leaf branch (Branch b) = branch b
 unfoldable pub walk : (st : List ℕ) (cap : ℕ) (k : List ℕ) (stop : ℕ) → ℕ → Step → Walked
 walk st cap k stop zero s = Wrong
 walk st cap k stop (suc f) s =
-    onNode (λ n. At s)
-    (λ b. cond (leb stop (s .link .position)) (At s)
-    (onLinked (λ l. walk st cap k stop f (step l (Under b (nibble k (s .link .position))) (s .at)))
-    (Missing b (nibble k (s .link .position)))
+    onNode (λ n. At (s .child) s)
+    (λ b. cond (leb stop (s .position)) (At (s .child) s)
+    (onLinked (λ l. walk st cap k stop f (step l (Under b (nibble k (s .position))) (s .at)))
+    (Missing b (nibble k (s .position)))
     Wrong
-    (linkedIn cap (nibble k (s .link .position)) (childrenIn st (b .0)))))
-    (s .link .child)
+    (linkedIn cap (nibble k (s .position)) (childrenIn st (b .0)))))
+    (s .child)
 
 -- Down by the key's nibble, or by the lowest slot where it is missing.
 unfoldable pub near : (st : List ℕ) (cap : ℕ) (k : List ℕ) → ℕ → (depth : ℕ) → Link → Closest
@@ -69,7 +74,7 @@ Within cap Root = Unit {0}
 Within cap (Under b s) = (b .0 < cap) × (s ≤ 16)
 
 abbrev pub Lies : ℕ → Walked → Type 0
-Lies cap (At s) = (numberIn (s .link .child) < cap) × Within cap (s .at) × Within cap (s .above)
+Lies cap (At c s) = (numberIn (s .child) < cap) × Within cap (s .at) × Within cap (s .above) × (c ≡ s .child)
 Lies cap (Missing b s) = (b .0 < cap) × (s ≤ 16)
 Lies cap Wrong = Unit {0}
 

@@ -25,15 +25,17 @@ pub enum Spot {
     Under(BranchNo, u8),
 }
 
-// The last step of a descent: the link met, where it stands, and where the link to the branch above it stands.
+// The last step of a descent: the child that it led to, that child's position, where its link stands, and where the link to the branch above it stands.
 pub struct Step {
-    pub link: Link,
+    pub child: Child,
+    pub position: u8,
     pub at: Spot,
     pub above: Spot,
 }
 
 pub enum Walked {
-    At(Step),
+    // the node met, and the step to it
+    At(Child, Step),
     // the branch lacks the slot
     Missing(BranchNo, u8),
     // the records are no tree, or a deeper one than a picture
@@ -51,8 +53,11 @@ pub fn descend(store: &[u8], capacity: u16, key: &[u8], root: Link, stop: usize)
     ensures is { λ r. ⌜ r ≡ walk (now (store .entry)) capacity (now (key .entry)) stop steps (first root) ⌝ }
     ensures lies { λ r. ⌜ Lies capacity r ⌝ }
 {
+    let child = root.child;
+    let position = root.position;
     let mut step = Step {
-        link: root,
+        child,
+        position,
         at: Spot::Root,
         above: Spot::Root,
     };
@@ -61,21 +66,23 @@ pub fn descend(store: &[u8], capacity: u16, key: &[u8], root: Link, stop: usize)
         if left == 0 {
             break Walked::Wrong;
         }
-        let link = step.link;
-        let child = link.child;
-        match child {
-            Child::Leaf(_n) => break Walked::At(step),
+        let node = step.child;
+        match node {
+            Child::Leaf(_n) => break Walked::At(node, step),
             Child::Branch(b) => {
-                let p = link.position as usize;
+                let p = step.position as usize;
                 if stop <= p {
-                    break Walked::At(step);
+                    break Walked::At(node, step);
                 }
                 let slot = nibble(key, p);
                 match get_child(store, b, slot, capacity) {
                     Linked::To(next) => {
+                        let below = next.child;
+                        let position = next.position;
                         let at = step.at;
                         step = Step {
-                            link: next,
+                            child: below,
+                            position,
                             at: Spot::Under(b, slot),
                             above: at,
                         };

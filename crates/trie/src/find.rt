@@ -28,22 +28,17 @@ pub enum Exact {
 }
 
 // A leaf that a descent met: the one looked for, or another.
-fn matching(store: &[u8], capacity: u16, key: &[u8], step: Step) -> Exact
-    requires { ⌜ (start capacity ≤ length (now store)) × (numberIn (step .link .child) < capacity) ⌝ }
-    ensures { λ r. ⌜ r ≡ matched (now (store .entry)) (now (key .entry)) step ⌝ }
+fn matching(store: &[u8], capacity: u16, key: &[u8], met: Child, step: Step) -> Exact
+    requires { ⌜ (start capacity ≤ length (now store)) × (numberIn met < capacity) ⌝ }
+    ensures { λ r. ⌜ r ≡ matched (now (store .entry)) (now (key .entry)) met step ⌝ }
 {
-    let link = step.link;
-    let child = link.child;
-    match child {
-        Child::Leaf(n) => {
-            if fields::same(key, node::leaf::key(store, n)) {
-                Exact::Leaf(n, step)
-            } else {
-                Exact::Absent
-            }
-        }
-        Child::Branch(_b) => Exact::Wrong,
+    let Child::Leaf(n) = met else {
+        return Exact::Wrong;
+    };
+    if fields::same(key, node::leaf::key(store, n)) {
+        return Exact::Leaf(n, step);
     }
+    Exact::Absent
 }
 
 fn find_from(store: &[u8], capacity: u16, key: &[u8], root: Link) -> Exact
@@ -52,7 +47,7 @@ fn find_from(store: &[u8], capacity: u16, key: &[u8], root: Link) -> Exact
     ensures stands { λ r. ⌜ Stands capacity r ⌝ }
 {
     match descend(store, capacity, key, root, NO_STOP) {
-        Walked::At(step) => matching(store, capacity, key, step),
+        Walked::At(met, step) => matching(store, capacity, key, met, step),
         Walked::Missing(_b, _s) => Exact::Absent,
         Walked::Wrong => Exact::Wrong,
     }
@@ -67,9 +62,8 @@ pub fn find_exact_leaf(store: &[u8], h: Header, key: &[u8]) -> Exact
     if h.leaves == 0 {
         return Exact::Absent;
     }
-    match link_of(h.root, h.capacity) {
-        Linked::To(root) => find_from(store, h.capacity, key, root),
-        Linked::Absent => Exact::Wrong,
-        Linked::Wrong => Exact::Wrong,
-    }
+    let Linked::To(root) = link_of(h.root, h.capacity) else {
+        return Exact::Wrong;
+    };
+    find_from(store, h.capacity, key, root)
 }

@@ -48,18 +48,16 @@ fn hang(store: &mut [u8], h: Header, key: &[u8], value: u32, spot: Spot) -> Put
     requires { ⌜ (start (h .capacity) ≤ length (now store)) × (h .capacity ≤ most) × (length (now key) ≤ keyLimit) × (Within (h .capacity) spot) ⌝ }
     ensures { λ r. ⌜ Did (hung (now (store .entry)) h (now (key .entry)) value spot) r (now (store .exit)) ⌝ }
 {
-    match take_leaf(store, h) {
-        TakenLeaf::Record(n, after) => {
-            write_leaf(store, n, key, value);
-            let link = Link {
-                child: Child::Leaf(n),
-                position: 0,
-            };
-            relink(store, after, spot, link);
-            Put::New
-        }
-        TakenLeaf::Nothing => Put::Wrong,
-    }
+    let TakenLeaf::Record(n, after) = take_leaf(store, h) else {
+        return Put::Wrong;
+    };
+    write_leaf(store, n, key, value);
+    let link = Link {
+        child: Child::Leaf(n),
+        position: 0,
+    };
+    relink(store, after, spot, link);
+    Put::New
 }
 
 // A branch over a new leaf and a link, in the order of their slots.
@@ -90,12 +88,14 @@ fn plant(
     place: u8,
     other: u8,
 )
-    requires { ⌜ (start (h .capacity) ≤ length (now store)) × (h .capacity ≤ most) × (length (now key) ≤ keyLimit) × (leaf .0 < h .capacity) × (branch .0 < h .capacity) × (numberIn (step .link .child) < h .capacity) × (Within (h .capacity) (step .at)) ⌝ }
+    requires { ⌜ (start (h .capacity) ≤ length (now store)) × (h .capacity ≤ most) × (length (now key) ≤ keyLimit) × (leaf .0 < h .capacity) × (branch .0 < h .capacity) × (numberIn (step .child) < h .capacity) × (Within (h .capacity) (step .at)) ⌝ }
     ensures { λ _. ⌜ now (store .exit) ≡ planted (now (store .entry)) h (now (key .entry)) value (leaf .0) (branch .0) step place other ⌝ }
 {
     write_leaf(store, leaf, key, value);
-    let old = step.link;
+    let child = step.child;
+    let position = step.position;
     let at = step.at;
+    let old = Link { child, position };
     join(store, branch, nibble(key, place as usize), leaf, other, old);
     let link = Link {
         child: Child::Branch(branch),
@@ -114,19 +114,17 @@ fn fork(
     place: u8,
     other: u8,
 ) -> Put
-    requires { ⌜ (start (h .capacity) ≤ length (now store)) × (h .capacity ≤ most) × (length (now key) ≤ keyLimit) × (numberIn (step .link .child) < h .capacity) × (Within (h .capacity) (step .at)) ⌝ }
+    requires { ⌜ (start (h .capacity) ≤ length (now store)) × (h .capacity ≤ most) × (length (now key) ≤ keyLimit) × (numberIn (step .child) < h .capacity) × (Within (h .capacity) (step .at)) ⌝ }
     ensures { λ r. ⌜ Did (forked (now (store .entry)) h (now (key .entry)) value step place other) r (now (store .exit)) ⌝ }
 {
-    match take_leaf(store, h) {
-        TakenLeaf::Record(n, one) => match take_branch(store, one) {
-            TakenBranch::Record(b, two) => {
-                plant(store, two, key, value, n, b, step, place, other);
-                Put::New
-            }
-            TakenBranch::Nothing => Put::Wrong,
-        },
-        TakenLeaf::Nothing => Put::Wrong,
-    }
+    let TakenLeaf::Record(n, one) = take_leaf(store, h) else {
+        return Put::Wrong;
+    };
+    let TakenBranch::Record(b, two) = take_branch(store, one) else {
+        return Put::Wrong;
+    };
+    plant(store, two, key, value, n, b, step, place, other);
+    Put::New
 }
 
 // A new key, by where the descent to its critical position ends.
@@ -150,7 +148,7 @@ fn put_new(
             }
             hang(store, h, key, value, Spot::Under(b, s))
         }
-        Walked::At(step) => {
+        Walked::At(_met, step) => {
             if h.limit as usize <= depth {
                 return Put::Height;
             }
@@ -206,10 +204,10 @@ fn put_under(store: &mut [u8], h: Header, key: &[u8], value: u32, root: Link) ->
     requires { ⌜ (start (h .capacity) ≤ length (now store)) × (h .capacity ≤ most) × (length (now key) ≤ keyLimit) × (numberIn (root .child) < h .capacity) ⌝ }
     ensures { λ r. ⌜ Did (putUnder (now (store .entry)) h (now (key .entry)) value root) r (now (store .exit)) ⌝ }
 {
-    match find_closest_leaf(store, h.capacity, key, root) {
-        Closest::Leaf(n, depth) => put_near(store, h, key, value, root, n, depth),
-        Closest::Wrong => Put::Wrong,
-    }
+    let Closest::Leaf(n, depth) = find_closest_leaf(store, h.capacity, key, root) else {
+        return Put::Wrong;
+    };
+    put_near(store, h, key, value, root, n, depth)
 }
 
 // A key with its value goes into a store whose header is h.
@@ -220,9 +218,8 @@ pub fn insert(store: &mut [u8], h: Header, key: &[u8], value: u32) -> Put
     if h.leaves == 0 {
         return hang(store, h, key, value, Spot::Root);
     }
-    match link_of(h.root, h.capacity) {
-        Linked::To(root) => put_under(store, h, key, value, root),
-        Linked::Absent => Put::Wrong,
-        Linked::Wrong => Put::Wrong,
-    }
+    let Linked::To(root) = link_of(h.root, h.capacity) else {
+        return Put::Wrong;
+    };
+    put_under(store, h, key, value, root)
 }

@@ -1,4 +1,4 @@
-// Removal of a leaf that a descent met. "Remove takes the leaf out; a branch left with one child is replaced by that child."
+// Outcome Bool of a leaf that a descent met. "Remove takes the leaf out; a branch left with one child is replaced by that child."
 use crate::descent::Spot;
 use crate::relink::relink;
 use crate::relink::with_root;
@@ -12,6 +12,7 @@ use node::child::LeafNo;
 use node::child::Linked;
 use node::header::Header;
 use node::header::put_head;
+use node::layout::NO_ROOT;
 ghost use mathlib.Core.Path.{_≡_};
 ghost use mathlib.Core.Bool.{cond, true, false};
 ghost use Prim.Native.Nat.{_≤_, _<_};
@@ -21,32 +22,26 @@ ghost use Rattle.sparse_array.specs.Entries.{erase};
 ghost use Rattle.node.specs.Layout.{start};
 ghost use Rattle.node.specs.Branch.{childrenIn, headLink};
 ghost use Rattle.trie.specs.Walk.{Within};
-ghost use Rattle.trie.specs.Writes.{DidTake, took, lifted, removeUnder, liftUnder};
-
-// The root of an empty store: the item of no link.
-const NO_ROOT: u32 = 65535;
+ghost use Rattle.trie.specs.Writes.{Did, outcome, lifted, removeUnder, liftUnder};
 
 // The leaf and its branch of two children go, and the other child takes the branch's place.
 fn lift(store: &mut [u8], h: Header, leaf: LeafNo, branch: BranchNo, slot: u8, above: Spot) -> bool
     requires { ⌜ (start (h .capacity) ≤ length (now store)) × (h .capacity ≤ most) × (leaf .0 < h .capacity) × (branch .0 < h .capacity) × (Within (h .capacity) above) ⌝ }
-    ensures { λ r. ⌜ DidTake (liftUnder (now (store .entry)) h (leaf .0) (branch .0) slot above) r (now (store .exit)) ⌝ }
+    ensures { λ r. ⌜ Did (liftUnder (now (store .entry)) h (leaf .0) (branch .0) slot above) r (now (store .exit)) ⌝ }
 {
-    match other_child(store, branch, slot, h.capacity) {
-        Linked::To(link) => {
-            let one = give_leaf(store, h, leaf);
-            let two = give_branch(store, one, branch);
-            relink(store, two, above, link);
-            true
-        }
-        Linked::Absent => false,
-        Linked::Wrong => false,
-    }
+    let Linked::To(link) = other_child(store, branch, slot, h.capacity) else {
+        return false;
+    };
+    let one = give_leaf(store, h, leaf);
+    let two = give_branch(store, one, branch);
+    relink(store, two, above, link);
+    true
 }
 
 // The leaf at a spot is taken out; false where the store holds no tree.
 pub fn remove(store: &mut [u8], h: Header, leaf: LeafNo, at: Spot, above: Spot) -> bool
     requires { ⌜ (start (h .capacity) ≤ length (now store)) × (h .capacity ≤ most) × (leaf .0 < h .capacity) × (Within (h .capacity) at) × (Within (h .capacity) above) ⌝ }
-    ensures { λ r. ⌜ DidTake (removeUnder (now (store .entry)) h (leaf .0) at above) r (now (store .exit)) ⌝ }
+    ensures { λ r. ⌜ Did (removeUnder (now (store .entry)) h (leaf .0) at above) r (now (store .exit)) ⌝ }
 {
     match at {
         Spot::Root => {

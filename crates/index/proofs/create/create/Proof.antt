@@ -1,5 +1,6 @@
 -- `index::create::create` meets its promise: by what the bytes are afterwards, in both cases of the length. Assumes nothing.
 use Rattle.index.proofs.Contracts.{create-promise}
+use Rattle.index.proofs.WayLaws.{create-is}
 use borrow.Author.Needs.{needs}
 use Rattle.index.proofs.create.create.Statement.{statement}
 use Rattle.index.proofs.create.create.Tie as tie
@@ -11,7 +12,7 @@ same-length : tie.Need-same-length
 same-length c = search needs
 
 returns : tie.Need-returns
-returns c = search (create-promise, needs)
+returns c = (search (create-promise, needs), search (create-is, needs))
 
 pub create-spec : {M : Type 1} → statement M
 create-spec = tie.close (tie.spec create-requires same-length returns)

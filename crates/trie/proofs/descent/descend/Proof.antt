@@ -3,25 +3,25 @@ use Rattle.node.specs.Child.{numberIn}
 use Rattle.trie.specs.Walk.{steps, walk, Within}
 use mathlib.Core.Path.{_≡_}
 use Prim.Native.Nat.{_≤_, _<_}
-use Rattle.trie.proofs.WalkLaws.{met-end, met-leaf, met-stop, met-missing, met-wrong, met-next, branch-room, branch-below, link-below, slot-fits}
+use Rattle.trie.proofs.WalkLaws.{same-leaf, same-branch, met-end, met-leaf, met-stop, met-missing, met-wrong, met-next, branch-room, branch-below, link-below, slot-fits}
 use borrow.Author.Needs.{needs}
 use Rattle.trie.proofs.descent.descend.Statement.{statement}
 use Rattle.trie.proofs.descent.descend.Tie as tie
 
 abbrev Inv-loop : tie.InvT-loop
-Inv-loop store capacity key stop step₀ left₀ step left = (left ≤ steps) × (numberIn (step .link .child) < capacity) × Within capacity (step .at) × Within capacity (step .above) × (walk store capacity key stop left step ≡ walk store capacity key stop left₀ step₀)
+Inv-loop store capacity key stop position step₀ left₀ step left = (left ≤ steps) × (numberIn (step .child) < capacity) × Within capacity (step .at) × Within capacity (step .above) × (walk store capacity key stop left step ≡ walk store capacity key stop left₀ step₀)
 
 abbrev μ-loop : tie.MeasureT-loop
-μ-loop store capacity key stop step₀ left₀ step left = left
+μ-loop store capacity key stop position step₀ left₀ step left = left
 
 loop-holds : tie.Need-loop-holds Inv-loop μ-loop
 loop-holds c = search needs
 
-enum-known-child : tie.Need-enum-known-child Inv-loop μ-loop
-enum-known-child c = search needs
+enum-known-node : tie.Need-enum-known-node Inv-loop μ-loop
+enum-known-node c = search needs
 
-enum-known-child-2 : tie.Need-enum-known-child-2 Inv-loop μ-loop
-enum-known-child-2 c = search needs
+enum-known-node-2 : tie.Need-enum-known-node-2 Inv-loop μ-loop
+enum-known-node-2 c = search needs
 
 cast-p : tie.Need-cast-p Inv-loop μ-loop
 cast-p c = search needs
@@ -54,10 +54,10 @@ returns : tie.Need-returns Inv-loop μ-loop
 returns c = (search (met-end, needs), tt)
 
 returns-2 : tie.Need-returns-2 Inv-loop μ-loop
-returns-2 c = (search (met-leaf, needs), search needs)
+returns-2 c = (search (met-leaf, needs), (search needs, search needs, search needs, search (same-leaf, needs)))
 
 returns-3 : tie.Need-returns-3 Inv-loop μ-loop
-returns-3 c = (search (met-stop, needs), search needs)
+returns-3 c = (search (met-stop, needs), (search needs, search needs, search needs, search (same-branch, needs)))
 
 returns-4 : tie.Need-returns-4 Inv-loop μ-loop
 returns-4 c = (search (met-missing, needs), (search (branch-below, needs), search (slot-fits, needs)))
@@ -72,8 +72,8 @@ descend-spec =
     Inv-loop
     μ-loop
     loop-holds
-    enum-known-child
-    enum-known-child-2
+    enum-known-node
+    enum-known-node-2
     cast-p
     nibble-requires
     get-child-requires

@@ -1,5 +1,5 @@
 -- `trie::find::find_exact_leaf` meets its contract: by the ways out: an empty store, a root link that leads nowhere, and a root. Assumes nothing.
-use Rattle.trie.proofs.FindLaws.{none-stored, root-below, root-found, root-absent, root-wrong}
+use Rattle.trie.proofs.FindLaws.{none-stored, root-below, root-found, root-lost}
 use borrow.Author.Needs.{needs}
 use Rattle.trie.proofs.find.find_exact_leaf.Statement.{statement}
 use Rattle.trie.proofs.find.find_exact_leaf.Tie as tie
@@ -13,34 +13,16 @@ link-of-requires c κs = search needs
 enum-known-root : tie.Need-enum-known-root
 enum-known-root c = search needs
 
+returns-2 : tie.Need-returns-2
+returns-2 c = (search (root-lost, needs), tt)
+
 find-from-requires : tie.Need-find-from-requires
 find-from-requires c κs = search (root-below, needs)
 
-enum-told : tie.Need-enum-told
-enum-told c = search needs
-
-enum-told-2 : tie.Need-enum-told-2
-enum-told-2 c = search needs
-
-returns-2 : tie.Need-returns-2
-returns-2 c = (search (root-found, needs), search needs)
-
 returns-3 : tie.Need-returns-3
-returns-3 c = (search (root-absent, needs), tt)
-
-returns-4 : tie.Need-returns-4
-returns-4 c = (search (root-wrong, needs), tt)
+returns-3 c = (search (root-found, needs), search needs)
 
 pub find-exact-leaf-spec : {M : Type 1} → statement M
 find-exact-leaf-spec =
     tie.close
-    (tie.spec
-    returns
-    link-of-requires
-    enum-known-root
-    find-from-requires
-    enum-told
-    enum-told-2
-    returns-2
-    returns-3
-    returns-4)
+    (tie.spec returns link-of-requires enum-known-root returns-2 find-from-requires returns-3)

@@ -7,8 +7,8 @@ use Rattle.trie.proofs.find.find_from.Tie as tie
 descend-requires : tie.Need-descend-requires
 descend-requires c κs = search needs
 
-enum-known-step : tie.Need-enum-known-step
-enum-known-step c = search needs
+enum-known-met : tie.Need-enum-known-met
+enum-known-met c = search needs
 
 matching-requires : tie.Need-matching-requires
 matching-requires c κs = search (lies-at, needs)
@@ -33,7 +33,7 @@ find-from-spec =
     tie.close
     (tie.spec
     descend-requires
-    enum-known-step
+    enum-known-met
     matching-requires
     enum-known--b
     enum-told

@@ -10,12 +10,6 @@ take-leaf-requires c κs = search needs
 enum-known-n : tie.Need-enum-known-n
 enum-known-n c = search needs
 
-write-leaf-requires : tie.Need-write-leaf-requires
-write-leaf-requires c κs = search (leaf-block, needs)
-
-relink-requires : tie.Need-relink-requires
-relink-requires c κs = (search (leaf-fits, needs), search (leaf-within, needs), search (leaf-small, needs))
-
 enum-told : tie.Need-enum-told
 enum-told c = search needs
 
@@ -23,13 +17,19 @@ same-length : tie.Need-same-length
 same-length c = search needs
 
 returns : tie.Need-returns
-returns c = (search (hung-new, needs), search (hung-bytes, needs))
+returns c = (search (not-hung, needs), search (not-hung-bytes, needs))
+
+write-leaf-requires : tie.Need-write-leaf-requires
+write-leaf-requires c κs = search (leaf-block, needs)
+
+relink-requires : tie.Need-relink-requires
+relink-requires c κs = (search (leaf-fits, needs), search (leaf-within, needs), search (leaf-small, needs))
 
 same-length-2 : tie.Need-same-length-2
 same-length-2 c = search needs
 
 returns-2 : tie.Need-returns-2
-returns-2 c = (search (not-hung, needs), search (not-hung-bytes, needs))
+returns-2 c = (search (hung-new, needs), search (hung-bytes, needs))
 
 pub hang-spec : {M : Type 1} → statement M
 hang-spec =
@@ -37,10 +37,10 @@ hang-spec =
     (tie.spec
     take-leaf-requires
     enum-known-n
-    write-leaf-requires
-    relink-requires
     enum-told
     same-length
     returns
+    write-leaf-requires
+    relink-requires
     same-length-2
     returns-2)

@@ -1,6 +1,6 @@
 -- `trie::insert::insert` meets its contract: by the ways out: an empty store, a root link that leads nowhere, and a root. Assumes nothing.
 use Rattle.trie.proofs.FindLaws.{root-below}
-use Rattle.trie.proofs.WriteLaws.{first-answer, first-bytes, under-answer, under-bytes, absent-answer, absent-bytes, broken-answer, broken-bytes}
+use Rattle.trie.proofs.WriteLaws.{first-answer, first-bytes, under-answer, under-bytes, lost-root-answer, lost-root-bytes}
 use borrow.Author.Needs.{needs}
 use Rattle.trie.proofs.insert.insert.Statement.{statement}
 use Rattle.trie.proofs.insert.insert.Tie as tie
@@ -20,26 +20,17 @@ link-of-requires c κs = search needs
 enum-known-root : tie.Need-enum-known-root
 enum-known-root c = search needs
 
+returns-2 : tie.Need-returns-2
+returns-2 c = (search (lost-root-answer, needs), search (lost-root-bytes, needs))
+
 put-under-requires : tie.Need-put-under-requires
 put-under-requires c κs = search (root-below, needs)
-
-enum-told : tie.Need-enum-told
-enum-told c = search needs
-
-enum-told-2 : tie.Need-enum-told-2
-enum-told-2 c = search needs
 
 same-length-2 : tie.Need-same-length-2
 same-length-2 c = search needs
 
-returns-2 : tie.Need-returns-2
-returns-2 c = (search (under-answer, needs), search (under-bytes, needs))
-
 returns-3 : tie.Need-returns-3
-returns-3 c = (search (absent-answer, needs), search (absent-bytes, needs))
-
-returns-4 : tie.Need-returns-4
-returns-4 c = (search (broken-answer, needs), search (broken-bytes, needs))
+returns-3 c = (search (under-answer, needs), search (under-bytes, needs))
 
 pub insert-spec : {M : Type 1} → statement M
 insert-spec =
@@ -50,10 +41,7 @@ insert-spec =
     returns
     link-of-requires
     enum-known-root
-    put-under-requires
-    enum-told
-    enum-told-2
-    same-length-2
     returns-2
-    returns-3
-    returns-4)
+    put-under-requires
+    same-length-2
+    returns-3)

@@ -10,9 +10,6 @@ find-closest-leaf-requires c κs = search needs
 enum-known-n : tie.Need-enum-known-n
 enum-known-n c = search needs
 
-put-near-requires : tie.Need-put-near-requires
-put-near-requires c κs = search (closest-below, needs)
-
 enum-told : tie.Need-enum-told
 enum-told c = search needs
 
@@ -20,13 +17,16 @@ same-length : tie.Need-same-length
 same-length c = search needs
 
 returns : tie.Need-returns
-returns c = (search (near-answer, needs), search (near-bytes, needs))
+returns c = (search (lost-answer, needs), search (lost-bytes, needs))
+
+put-near-requires : tie.Need-put-near-requires
+put-near-requires c κs = search (closest-below, needs)
 
 same-length-2 : tie.Need-same-length-2
 same-length-2 c = search needs
 
 returns-2 : tie.Need-returns-2
-returns-2 c = (search (lost-answer, needs), search (lost-bytes, needs))
+returns-2 c = (search (near-answer, needs), search (near-bytes, needs))
 
 pub put-under-spec : {M : Type 1} → statement M
 put-under-spec =
@@ -34,9 +34,9 @@ put-under-spec =
     (tie.spec
     find-closest-leaf-requires
     enum-known-n
-    put-near-requires
     enum-told
     same-length
     returns
+    put-near-requires
     same-length-2
     returns-2)

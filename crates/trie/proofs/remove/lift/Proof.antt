@@ -1,5 +1,5 @@
 -- `trie::remove::lift` meets its contract: by the answers of the branch: its other child, or none. Assumes nothing.
-use Rattle.trie.proofs.WriteLaws.{link-small, gave-fits, gave-within, lift-done, lift-bytes, lift-none, lift-none-bytes, lift-wrong, lift-wrong-bytes}
+use Rattle.trie.proofs.WriteLaws.{link-small, gave-fits, gave-within, lift-done, lift-bytes, not-lifted, not-lifted-bytes}
 use borrow.Author.Needs.{needs}
 use Rattle.trie.proofs.remove.lift.Statement.{statement}
 use Rattle.trie.proofs.remove.lift.Tie as tie
@@ -10,6 +10,12 @@ other-child-requires c κs = search needs
 enum-known-link : tie.Need-enum-known-link
 enum-known-link c = search needs
 
+same-length : tie.Need-same-length
+same-length c = search needs
+
+returns : tie.Need-returns
+returns c = (search (not-lifted, needs), search (not-lifted-bytes, needs))
+
 give-leaf-requires : tie.Need-give-leaf-requires
 give-leaf-requires c κs = search needs
 
@@ -19,29 +25,11 @@ give-branch-requires c κs = search needs
 relink-requires : tie.Need-relink-requires
 relink-requires c κs = (search (gave-fits, needs), search (gave-within, needs), search (link-small, needs))
 
-enum-told : tie.Need-enum-told
-enum-told c = search needs
-
-enum-told-2 : tie.Need-enum-told-2
-enum-told-2 c = search needs
-
-same-length : tie.Need-same-length
-same-length c = search needs
-
-returns : tie.Need-returns
-returns c = (search (lift-done, needs), search (lift-bytes, needs))
-
 same-length-2 : tie.Need-same-length-2
 same-length-2 c = search needs
 
 returns-2 : tie.Need-returns-2
-returns-2 c = (search (lift-none, needs), search (lift-none-bytes, needs))
-
-same-length-3 : tie.Need-same-length-3
-same-length-3 c = search needs
-
-returns-3 : tie.Need-returns-3
-returns-3 c = (search (lift-wrong, needs), search (lift-wrong-bytes, needs))
+returns-2 c = (search (lift-done, needs), search (lift-bytes, needs))
 
 pub lift-spec : {M : Type 1} → statement M
 lift-spec =
@@ -49,14 +37,10 @@ lift-spec =
     (tie.spec
     other-child-requires
     enum-known-link
+    same-length
+    returns
     give-leaf-requires
     give-branch-requires
     relink-requires
-    enum-told
-    enum-told-2
-    same-length
-    returns
     same-length-2
-    returns-2
-    same-length-3
-    returns-3)
+    returns-2)
