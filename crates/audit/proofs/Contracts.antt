@@ -27,6 +27,7 @@ use Rattle.node.specs.declared.header.Header.{Header}
 use Rattle.node.specs.declared.header.Head.{Head}
 use Rattle.node.specs.declared.header.Head.the-variants.{Good as GoodHead, Bad as BadHead}
 use Rattle.trie.specs.Walk.{steps}
+use Rattle.trie.proofs.WalkLaws.{NoLink, no-link}
 use Rattle.audit.specs.Walk.{tally, leafSeen, stands, head, addKid, finish, seen, countsRight, treeRight, Modest, Sound}
 use Rattle.audit.specs.Accepts.{chainRight, recordsRight, acceptsIn}
 use Rattle.audit.specs.declared.tree.Seen.{Seen}
@@ -174,13 +175,9 @@ module _ (st : List ℕ) (cap leaves branches root : ℕ) where
       unfolding treeRight
       tree-rooted m e r q b i = rw (i, q, ne-eqb leaves 0 ne, ← is, e)
 
-      pub tree-absent : l ≡ Absent → false ≡ treeRight st cap leaves branches root
+      pub tree-lost : NoLink l → false ≡ treeRight st cap leaves branches root
       unfolding treeRight
-      tree-absent e = rw (ne-eqb leaves 0 ne, ← is, e)
-
-      pub tree-wrong : l ≡ Wrong → false ≡ treeRight st cap leaves branches root
-      unfolding treeRight
-      tree-wrong e = rw (ne-eqb leaves 0 ne, ← is, e)
+      tree-lost n = rw (ne-eqb leaves 0 ne, ← is) (sym (no-link (λ m. countsRight leaves branches (seen st cap steps 0 leaves m)) false l n))
 
 -- ---- the whole store
 

@@ -44,16 +44,16 @@ fn records_right(store: &[u8], h: Header) -> bool
 fn accepts(store: &[u8]) -> bool
     ensures { λ r. ⌜ r ≡ acceptsIn (now (store .entry)) ⌝ }
 {
-    match read_head(store) {
-        Head::Good(h) => records_right(store, h),
-        Head::Bad => false,
-    }
+    let Head::Good(h) = read_head(store) else {
+        return false;
+    };
+    records_right(store, h)
 }
 
 // "The check answers done exactly for these and STORE for all others".
 pub fn check(store: &[u8]) -> Checked
-    ensures done { λ r. ⌜ (r ≡ Checked.Done → (o : Option Tree) × Accepted (now (store .entry)) o) ⌝ }
-    ensures store { λ r. ⌜ ((o : Option Tree) → Accepted (now (store .entry)) o → r ≡ Checked.Done) ⌝ }
+    ensures sound { λ r. ⌜ (r ≡ Checked.Done → (o : Option Tree) × Accepted (now (store .entry)) o) ⌝ }
+    ensures complete { λ r. ⌜ ((o : Option Tree) → Accepted (now (store .entry)) o → r ≡ Checked.Done) ⌝ }
 {
     if accepts(store) {
         Checked::Done

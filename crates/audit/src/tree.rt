@@ -17,7 +17,7 @@ ghost use Prim.Native.Nat.{_-_, _≤_, _<_};
 ghost use lib.ListN.{length};
 ghost use Rattle.node.specs.Layout.{start};
 ghost use Rattle.node.specs.Child.{numberIn};
-ghost use Rattle.audit.specs.Walk.{leafSeen, stands, head, addKid, finish, seen, countsRight, treeRight, Modest, Sound, Grown};
+ghost use Rattle.audit.specs.Walk.{leafSeen, stands, head, addKid, finish as finished, seen, countsRight, treeRight, Modest, Sound, Grown};
 
 // The slots of a branch.
 const SLOTS: u8 = 17;
@@ -127,9 +127,9 @@ fn add_kid(
 }
 
 // A branch has two children or more.
-fn whole(t: Tally, capacity: u16, budget: usize) -> Seen
+fn finish(t: Tally, capacity: u16, budget: usize) -> Seen
     requires { ⌜ (budget < 65536) × (Sound capacity budget t) ⌝ }
-    ensures is { λ r. ⌜ r ≡ finish t ⌝ }
+    ensures is { λ r. ⌜ r ≡ finished t ⌝ }
     ensures modest { λ r. ⌜ Modest capacity budget r ⌝ }
 {
     let first = t.first;
@@ -197,7 +197,7 @@ fn check_node(
                 }
                 slot += 1;
             }
-            whole(t, capacity, budget)
+            finish(t, capacity, budget)
         }
     }
 }
@@ -233,13 +233,9 @@ pub fn tree_right(store: &[u8], capacity: u16, leaves: u16, branches: u16, root:
         }
         return false;
     }
-    match link_of(root, capacity) {
-        Linked::To(link) => counts_right(
-            check_node(store, capacity, link, 0, STEPS, leaves as usize),
-            leaves,
-            branches,
-        ),
-        Linked::Absent => false,
-        Linked::Wrong => false,
-    }
+    let Linked::To(link) = link_of(root, capacity) else {
+        return false;
+    };
+    let met = check_node(store, capacity, link, 0, STEPS, leaves as usize);
+    counts_right(met, leaves, branches)
 }

@@ -10,19 +10,19 @@ read-head-requires c κs = search needs
 enum-known-h : tie.Need-enum-known-h
 enum-known-h c = search needs
 
-records-right-requires : tie.Need-records-right-requires
-records-right-requires c κs = search (head-room, needs)
-
 enum-told : tie.Need-enum-told
 enum-told c = search needs
 
 returns : tie.Need-returns
-returns c = search (head-good, needs)
+returns c = search (head-bad, needs)
+
+records-right-requires : tie.Need-records-right-requires
+records-right-requires c κs = search (head-room, needs)
 
 returns-2 : tie.Need-returns-2
-returns-2 c = search (head-bad, needs)
+returns-2 c = search (head-good, needs)
 
 pub accepts-spec : {M : Type 1} → statement M
 accepts-spec =
     tie.close
-    (tie.spec read-head-requires enum-known-h records-right-requires enum-told returns returns-2)
+    (tie.spec read-head-requires enum-known-h enum-told returns records-right-requires returns-2)

@@ -16,7 +16,7 @@ use Rattle.audit.proofs.tree.check_node.Kinds as check-node-kinds
 use Rattle.audit.proofs.tree.+check_node.Lts-check_node as check-node-lts
 use Rattle.audit.proofs.tree.add_kid.Reads as add-kid-reads
 use Rattle.audit.proofs.tree.check_leaf.Reads as check-leaf-reads
-use Rattle.audit.proofs.tree.whole.Reads as whole-reads
+use Rattle.audit.proofs.tree.finish.Reads as finish-reads
 use Rattle.node.proofs.branch.get_child.Reads as get-child-reads
 use Rattle.audit.proofs.tree.+check_node.{statement}
 use Rattle.audit.proofs.tree.+check_node.Tie.{close}
@@ -43,8 +43,8 @@ callees t = (
   check-node.Post,
   add-kid-reads.Asked,
   add-kid-reads.Learnt,
-  whole-reads.Asked,
-  whole-reads.Learnt,
+  finish-reads.Asked,
+  finish-reads.Learnt,
 )
 
 abbrev check-node-Inv-loop : check-node-lts.InvT-loop
@@ -138,8 +138,8 @@ check-node-loop-again t c =
     ))
     (c .match2 .came)
 
-check-node-whole-requires : (t : ℕ) → check-node-lts.Need-whole-requires (callees t) (check-node-at t) check-node.Post check-node-Inv-loop check-node-μ-loop
-check-node-whole-requires t c κs = search needs
+check-node-finish-requires : (t : ℕ) → check-node-lts.Need-finish-requires (callees t) (check-node-at t) check-node.Post check-node-Inv-loop check-node-μ-loop
+check-node-finish-requires t c κs = search needs
 
 check-node-returns-5 : (t : ℕ) → check-node-lts.Need-returns-5 (callees t) (check-node-at t) check-node.Post check-node-Inv-loop check-node-μ-loop
 check-node-returns-5 t c = (search (node-leaf, needs), search needs)
@@ -176,6 +176,6 @@ pub +check-node-spec : {M : Type 1} → statement M
     (check-node-add-slot t)
     (check-node-loop-less t)
     (check-node-loop-again t)
-    (check-node-whole-requires t)
+    (check-node-finish-requires t)
     (check-node-returns-5 t)
     (check-node-returns-6 t)

@@ -1,5 +1,5 @@
 -- `audit::tree::tree_right` meets its contract: nothing is stored, or the root's link is walked. Assumes nothing.
-use Rattle.audit.proofs.Contracts.{tree-none, tree-dangling, root-in, tree-rooted, tree-absent, tree-wrong}
+use Rattle.audit.proofs.Contracts.{tree-none, tree-dangling, root-in, tree-rooted, tree-lost}
 use borrow.Author.Needs.{needs}
 use Rattle.audit.proofs.tree.tree_right.Statement.{statement}
 use Rattle.audit.proofs.tree.tree_right.Tie as tie
@@ -16,26 +16,17 @@ link-of-requires c κs = search needs
 enum-known-link : tie.Need-enum-known-link
 enum-known-link c = search needs
 
+returns-3 : tie.Need-returns-3
+returns-3 c = search (tree-lost, needs)
+
 check-node-requires : tie.Need-check-node-requires
 check-node-requires c κs = (search needs, search (root-in, needs), search needs)
 
 counts-right-requires : tie.Need-counts-right-requires
 counts-right-requires c κs = search needs
 
-enum-told : tie.Need-enum-told
-enum-told c = search needs
-
-enum-told-2 : tie.Need-enum-told-2
-enum-told-2 c = search needs
-
-returns-3 : tie.Need-returns-3
-returns-3 c = search (tree-rooted, needs)
-
 returns-4 : tie.Need-returns-4
-returns-4 c = search (tree-absent, needs)
-
-returns-5 : tie.Need-returns-5
-returns-5 c = search (tree-wrong, needs)
+returns-4 c = search (tree-rooted, needs)
 
 pub tree-right-spec : {M : Type 1} → statement M
 tree-right-spec =
@@ -45,10 +36,7 @@ tree-right-spec =
     returns-2
     link-of-requires
     enum-known-link
+    returns-3
     check-node-requires
     counts-right-requires
-    enum-told
-    enum-told-2
-    returns-3
-    returns-4
-    returns-5)
+    returns-4)

@@ -1,8 +1,8 @@
--- `audit::tree::whole` meets its contract. Assumes nothing.
+-- `audit::tree::finish` meets its contract. Assumes nothing.
 use Rattle.audit.proofs.Contracts.{few-kids, two-kids}
 use borrow.Author.Needs.{needs}
-use Rattle.audit.proofs.tree.whole.Statement.{statement}
-use Rattle.audit.proofs.tree.whole.Tie as tie
+use Rattle.audit.proofs.tree.finish.Statement.{statement}
+use Rattle.audit.proofs.tree.finish.Tie as tie
 
 add-t7 : tie.Need-add-t7
 add-t7 c = search needs
@@ -13,5 +13,5 @@ returns c = (search (few-kids, needs), tt)
 returns-2 : tie.Need-returns-2
 returns-2 c = (search (two-kids, needs), search needs)
 
-pub whole-spec : {M : Type 1} → statement M
-whole-spec = tie.close (tie.spec add-t7 returns returns-2)
+pub finish-spec : {M : Type 1} → statement M
+finish-spec = tie.close (tie.spec add-t7 returns returns-2)
