@@ -8,6 +8,8 @@ pub mod CallLaws
 pub mod Exists
 pub mod Bare
 pub mod PrefixLaws
+pub mod AfterLaws
+pub mod PageWalk
 pub mod Tally
 pub mod SetTally
 pub mod RowLaws
