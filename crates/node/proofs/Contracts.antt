@@ -14,10 +14,11 @@ use Rattle.model.specs.Numbers.{headerSize, blockSize, most, leastSize, capacit
 use Rattle.fields.specs.Part.{part, splice}
 use Rattle.fields.specs.Number.{little, littleBytes}
 use Rattle.fields.proofs.PartLaws.{lent, lent-back, length-part, length-splice}
-use Rattle.sparse_array.specs.Entries.{lookup, head, erase}
+use Rattle.sparse_array.specs.Entries.{lookup, nth, below, head, erase}
 use Rattle.sparse_array.specs.Array.{size, entries, withSlot, withoutSlot, cleared}
-use Rattle.sparse_array.specs.Answers.{got, gotOrHead, orElse, WasSet, WasRemoved}
+use Rattle.sparse_array.specs.Answers.{got, gotOrHead, orElse, placed, WasSet, WasRemoved}
 use Rattle.sparse_array.specs.declared.Got.{Got}
+use Rattle.sparse_array.specs.declared.Place.{Place}
 use Rattle.sparse_array.specs.declared.Put.{Put}
 use Rattle.sparse_array.specs.declared.Removed.{Removed}
 use Rattle.sparse_array.proofs.ItemLaws.{length-bitmap}
@@ -195,11 +196,33 @@ module _ (a : List ℕ) (cap slot : ℕ) (g : Got) (l : Linked) where
   pub got-linked : (st : List ℕ) (n : ℕ) → a ≡ arrayIn st n → g ≡ got (lookup slot (entries a)) → l ≡ linkedGot cap g → l ≡ linkedIn cap slot (childrenIn st n)
   got-linked st n p q r = r ∙ rw (q, p) (linked-got cap (lookup slot (entries (arrayIn st n))))
 
+  pub got-place : (st : List ℕ) (n i : ℕ) → a ≡ arrayIn st n → g ≡ got (nth i (entries a)) → l ≡ linkedGot cap g → l ≡ linked cap (nth i (childrenIn st n))
+  got-place st n i p q r = r ∙ rw (q, p) (linked-got cap (nth i (entries (arrayIn st n))))
+
   pub got-near : (st : List ℕ) (n : ℕ) → slot ≤ 16 → a ≡ arrayIn st n → g ≡ gotOrHead slot (entries a) → l ≡ linkedGot cap g → l ≡ nearIn cap slot (childrenIn st n)
   got-near st n h p q r = r ∙ rw (q, p, le-leb slot 16 h) (linked-got cap (orElse (lookup slot (entries (arrayIn st n))) (head (entries (arrayIn st n)))))
 
   pub got-head : (st : List ℕ) (n : ℕ) → a ≡ arrayIn st n → g ≡ got (head (entries a)) → l ≡ linkedGot cap g → l ≡ headLink cap (childrenIn st n)
   got-head st n p q r = r ∙ rw (q, p) (linked-got cap (head (entries (arrayIn st n))))
+
+-- the place of a slot of a record
+module _ (a : List ℕ) (slot : ℕ) (r : Place) (st : List ℕ) (n : ℕ) (p : a ≡ arrayIn st n) (q : r ≡ placed slot (entries a)) (h : slot ≤ 16) where
+  its-place : r ≡ Place.At (below slot (childrenIn st n))
+  its-place = q ∙ rw (p, le-leb slot 16 h)
+
+  pub place-is : (i : ℕ) → r ≡ Place.At i → i ≡ below slot (childrenIn st n)
+  place-is i e = go (Place.At i) (sym e ∙ its-place)
+    where
+      -- the number of a place
+      of : Place → ℕ
+      of (Place.At j) = j
+      of Place.Absent = 0
+
+      go : (z : Place) → z ≡ Place.At (below slot (childrenIn st n)) → of z ≡ below slot (childrenIn st n)
+      go z w = ap of w
+
+  pub place-never : r ≡ Place.Absent → 0 ≡ below slot (childrenIn st n)
+  place-never e = absurd (let w : Place.Absent ≡ Place.At (below slot (childrenIn st n)) = sym e ∙ its-place in let z : _≡_ {A = ℕ} 0 1 = cc in omega arith)
 
 pub got-other : (a : List ℕ) (cap slot : ℕ) (g : Got) (l : Linked) (st : List ℕ) (n : ℕ) → a ≡ arrayIn st n → g ≡ got (head (erase slot (entries a))) → l ≡ linkedGot cap g
     → l ≡ headLink cap (erase slot (childrenIn st n))

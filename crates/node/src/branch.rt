@@ -7,15 +7,16 @@ use crate::child::link_of;
 use crate::layout::ARRAY;
 use crate::layout::array_at;
 use sparse_array::Got;
+use sparse_array::Place;
 ghost use mathlib.Core.Path.{_≡_};
 ghost use Prim.Native.Nat.{_≤_, _<_};
 ghost use lib.ListN.{length};
 ghost use Rattle.model.specs.Numbers.{most};
-ghost use Rattle.sparse_array.specs.Entries.{erase};
+ghost use Rattle.sparse_array.specs.Entries.{nth, below, erase};
 ghost use Rattle.sparse_array.specs.Array.{size as arraySize};
 ghost use Rattle.node.specs.Layout.{Room};
 ghost use Rattle.node.specs.Child.{numberIn};
-ghost use Rattle.node.specs.Branch.{arrayIn, childrenIn, linkedGot, linkedIn, nearIn, headLink, setChild, removeChild, twoSlots, makeBranch};
+ghost use Rattle.node.specs.Branch.{arrayIn, childrenIn, linked as linkedOf, linkedGot, linkedIn, nearIn, headLink, setChild, removeChild, twoSlots, makeBranch};
 
 // The record's array, as a part of the store.
 pub fn array(store: &[u8], branch: BranchNo) -> &[u8]
@@ -44,6 +45,25 @@ pub fn get_child(store: &[u8], branch: BranchNo, slot: u8, capacity: u16) -> Lin
     ensures { λ r. ⌜ r ≡ linkedIn capacity slot (childrenIn (now (store .entry)) (branch .0)) ⌝ }
 {
     linked(sparse_array::get(array(store, branch), slot), capacity)
+}
+
+// The link at a place: from place 0 on these are the links of all children, in the order of their slots.
+pub fn child_at(store: &[u8], branch: BranchNo, place: usize, capacity: u16) -> Linked
+    requires { ⌜ Room (now store) (branch .0) ⌝ }
+    ensures { λ r. ⌜ r ≡ linkedOf capacity (nth place (childrenIn (now (store .entry)) (branch .0))) ⌝ }
+{
+    linked(sparse_array::item_at(array(store, branch), place), capacity)
+}
+
+// The place of a slot: the number of present slots below it.
+pub fn child_place(store: &[u8], branch: BranchNo, slot: u8) -> usize
+    requires { ⌜ (Room (now store) (branch .0)) × (slot ≤ 16) ⌝ }
+    ensures { λ r. ⌜ r ≡ below slot (childrenIn (now (store .entry)) (branch .0)) ⌝ }
+{
+    match sparse_array::actual_index(array(store, branch), slot) {
+        Place::At(place) => place,
+        Place::Absent => 0,
+    }
 }
 
 // The link of a slot, or of the lowest present slot where that one is missing.

@@ -9,7 +9,7 @@ use lib.Dec.{leb, eqb}
 use lib.ListN.{length, getD, set, take}
 use borrow.Author.Tests.{le-leb, lt-leb}
 use Rattle.sparse_array.specs.Bits.{count, lowest}
-use Rattle.sparse_array.specs.Entries.{Entry, pack, lookup, head, erase}
+use Rattle.sparse_array.specs.Entries.{Entry, pack, lookup, nth, head, erase}
 use Rattle.sparse_array.specs.Array.{size, bitmapOf, present, itemAt, entries, withItem, withBitmap, opened, closed, isIn, withSlot, withoutSlot, withoutLowest}
 use Rattle.sparse_array.specs.Answers.{got, gotOrHead, here, placed, WasSet, WasRemoved, WasPopped}
 use Rattle.sparse_array.specs.declared.Got.{Got}
@@ -18,7 +18,7 @@ use Rattle.sparse_array.specs.declared.Place.the-variants.{At, Absent as
 use Rattle.sparse_array.specs.declared.Put.the-variants.{New, Replaced, Absent as PutAbsent}
 use Rattle.sparse_array.specs.declared.Removed.the-variants.{Done, Absent as RemovedAbsent}
 use Rattle.sparse_array.proofs.BitLaws.{number-is}
-use Rattle.sparse_array.proofs.EntryLaws.{place-le, place-lt, lowest-set, lowest-place, none-set, erase-missing, erase-pack, take-out, count-clear, pack-none, head-pack}
+use Rattle.sparse_array.proofs.EntryLaws.{nth-pack, nth-past, place-le, place-lt, lowest-set, lowest-place, none-set, erase-missing, erase-pack, take-out, count-clear, pack-none, head-pack}
 use Rattle.sparse_array.proofs.ArrayLaws.{over, found, missing, presence, placed-at, counted, first, empty, beyond, room}
 
 -- ---- no slot over 16
@@ -72,6 +72,16 @@ module _ (a : List ℕ) (bits n : ℕ) (is : bits ≡ bitmapOf a) (e : n ≡ cou
             rw (← is, lowest-set (present bits) h, lowest-place (present bits), ← e, ← low)
             (q ∙ rw (o, number-is 17 m (set (present bits) slot false) w p));
       }
+
+-- ---- a place
+
+module _ (a : List ℕ) (bits n i : ℕ) (is : bits ≡ bitmapOf a) (e : n ≡ count (present bits)) where
+  pub at-place : (x : ℕ) → i < n → x ≡ itemAt a i → Item x ≡ got (nth i (entries a))
+  unfolding entries
+  at-place x h f = ap (λ (y : ℕ). got (some y)) f ∙ ap got (sym (nth-pack (present (bitmapOf a)) (itemAt a) i (rw (← is) (omega arith))))
+
+  pub past-place : n ≤ i → Absent ≡ got (nth i (entries a))
+  past-place h = ap got (sym (nth-past i (entries a) (omega (arith, counted a bits is n e))))
 
 -- ---- the lowest slot but for one
 

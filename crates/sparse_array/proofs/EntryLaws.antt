@@ -2,15 +2,15 @@
 -- (slot, item) list what its meaning says. All by induction on the bits. Assumes nothing.
 use mathlib.Core.Path.{_≡_, refl, sym, ap, ap₂, _∙_}
 use mathlib.Core.Bool.{Bool, true, false, cond, true≢false}
-use mathlib.Core.Option.{none, some}
+use mathlib.Core.Option.{none, some, Option·some-injective}
 use mathlib.Core.List.{List, [], _∷_, map}
 use Prim.Native.Nat.{ℕ, zero, suc, _≤_, _<_, zero-le, suc-le-suc}
 use native.Mathlib.Nat.{not-suc-le-zero, le-of-suc-le-suc, le-suc, le-trans, zero-lt-suc, suc-inj}
 use native.Mathlib.Omega.{arith}
-use lib.ListN.{length, getD, set, take, length-map}
+use lib.ListN.{length, getD, set, take, drop, length-map}
 use lib.Dec.{eqb, ltb, eqb·zero-suc, eqb·suc-zero, eqb·suc-suc, leb·suc-suc, leb·zero, leb·suc-zero}
 use Rattle.sparse_array.specs.Bits.{count, lowest}
-use Rattle.sparse_array.specs.Entries.{Entry, up, pack, lookup, head, tail, insert, erase, below, Rising}
+use Rattle.sparse_array.specs.Entries.{Entry, up, pack, lookup, nth, head, tail, insert, erase, below, Rising}
 
 -- ---- one slot up
 
@@ -68,6 +68,32 @@ unfolding pack
 head-pack [] f h = absurd (not-suc-le-zero h)
 head-pack (false ∷ bs) f h = head-up (pack bs f) ∙ head-pack bs f h
 head-pack (true ∷ bs) f h = refl
+
+nth-up : (i : ℕ) (es : List Entry) → nth i (map up es) ≡ nth i es
+unfolding nth
+nth-up i [] = refl
+nth-up zero (e ∷ es) = refl
+nth-up (suc i) (e ∷ es) = nth-up i es
+
+pub nth-pack : (bs : List Bool) (f : ℕ → ℕ) (i : ℕ) → i < count bs → nth i (pack bs f) ≡ some (f i)
+unfolding nth pack
+nth-pack [] f i h = absurd (omega arith)
+nth-pack (false ∷ bs) f i h = nth-up i (pack bs f) ∙ nth-pack bs f i h
+nth-pack (true ∷ bs) f zero h = refl
+nth-pack (true ∷ bs) f (suc i) h = nth-up i (pack bs (λ j. f (suc j))) ∙ nth-pack bs (λ j. f (suc j)) i (omega arith)
+
+pub nth-past : (i : ℕ) (es : List Entry) → length es ≤ i → nth i es ≡ none
+unfolding nth
+nth-past i [] h = refl
+nth-past zero (e ∷ es) h = absurd (omega arith)
+nth-past (suc i) (e ∷ es) h = nth-past i es (omega arith)
+
+-- what is left from a place on is the item there and what is left after it
+pub drop-nth : (i : ℕ) (es : List Entry) (x : ℕ) → nth i es ≡ some x → (s : ℕ) × (drop i es ≡ (s, x) ∷ drop (suc i) es)
+unfolding nth
+drop-nth i [] x e = absurd (let z : _≡_ {A = ℕ} 0 1 = cc in omega arith)
+drop-nth zero (d ∷ es) x e = (d .0, ap (λ (y : ℕ). (d .0, y) ∷ es) (Option·some-injective (d .1) x e))
+drop-nth (suc i) (d ∷ es) x e = drop-nth i es x e
 
 pub pack-none : (bs : List Bool) (f : ℕ → ℕ) → count bs ≡ 0 → pack bs f ≡ []
 unfolding pack

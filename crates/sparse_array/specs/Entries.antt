@@ -1,6 +1,6 @@
 -- A sparse array as a list of (slot, item), slots rising, and what the operations mean on it.
 -- Assumes nothing.
-use Prim.Native.Nat.{ℕ, suc, _≤_, _<_}
+use Prim.Native.Nat.{ℕ, zero, suc, _≤_, _<_}
 use mathlib.Core.Bool.{Bool, true, false, cond}
 use mathlib.Core.Option.{Option, none, some}
 use mathlib.Core.List.{List, [], _∷_, map}
@@ -32,6 +32,12 @@ head (e ∷ es) = some (e .1)
 abbrev pub tail : List Entry → List Entry
 tail [] = []
 tail (e ∷ es) = es
+
+-- the item at a place
+unfoldable pub nth : ℕ → List Entry → Option ℕ
+nth i [] = none
+nth zero (e ∷ es) = some (e .1)
+nth (suc i) (e ∷ es) = nth i es
 
 -- an item put at a slot, in the place of the one that is there, if any
 unfoldable pub insert : ℕ → ℕ → List Entry → List Entry

@@ -18,7 +18,7 @@ use items::put_item;
 ghost use mathlib.Core.Path.{_≡_};
 ghost use lib.Dec.{eqb};
 ghost use lib.ListN.{length};
-ghost use Rattle.sparse_array.specs.Entries.{lookup, erase, head as headOf};
+ghost use Rattle.sparse_array.specs.Entries.{lookup, nth, erase, head as headOf};
 ghost use Rattle.sparse_array.specs.Array.{size, entries, cleared};
 ghost use Rattle.sparse_array.specs.Answers.{got, gotOrHead, here, placed, WasSet, WasRemoved, WasPopped};
 
@@ -81,6 +81,17 @@ pub fn get(s: &[u8], slot: u8) -> Got
     if present(bits, slot) {
         let at = place(bits, slot);
         return Got::Item(item(s, at));
+    }
+    Got::Absent
+}
+
+// The item at a place: from place 0 on these are the items of all slots, in their order.
+pub fn item_at(s: &[u8], place: usize) -> Got
+    requires { ⌜ length (now s) ≡ size ⌝ }
+    ensures { λ r. ⌜ r ≡ got (nth place (entries (now (s .entry)))) ⌝ }
+{
+    if place < count(bitmap(s)) {
+        return Got::Item(item(s, place));
     }
     Got::Absent
 }
