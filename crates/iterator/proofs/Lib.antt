@@ -1,3 +1,4 @@
 pub mod EntryLaws
 pub mod SheetLaws
 pub mod WalkLaws
+pub mod AfterLaws

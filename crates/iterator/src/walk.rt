@@ -13,10 +13,12 @@ use node::child::Linked;
 use trie::keys::nibble;
 ghost use mathlib.Core.Path.{_≡_};
 ghost use mathlib.Core.Option.{some};
-ghost use Prim.Native.Nat.{_≤_, _<_};
+ghost use Prim.Native.Nat.{_≤_, _<_, _+_};
 ghost use lib.ListN.{length};
 ghost use Rattle.node.specs.Layout.{start};
+ghost use Rattle.sparse_array.specs.Entries.{below as placeOf};
 ghost use Rattle.node.specs.Child.{numberIn};
+ghost use Rattle.node.specs.Branch.{childrenIn};
 ghost use Rattle.iterator.specs.Walk.{entryIn, sheet, HasRoom, isStopped, put, puts, wrongly, below, after};
 
 // Whether a page goes on.
@@ -126,6 +128,89 @@ pub fn emit(
                 i += 1;
             }
             p
+        }
+    }
+}
+
+// The entries of a branch's children from the place of a slot on, or from the place after it.
+fn emit_from(
+    store: &[u8],
+    capacity: u16,
+    link: Link,
+    branch: BranchNo,
+    slot: u8,
+    skip: u8,
+    deep: usize,
+    out: &mut [u8],
+    progress: Progress,
+) -> Progress
+    requires { ⌜ (start capacity ≤ length (now store)) × (numberIn (link .child) < capacity) × (branch .0 < capacity) × (slot ≤ 16) × (HasRoom (now out) progress) ⌝ }
+    ensures is { λ r. ⌜ sheet (now (out .exit)) r ≡ puts (below (now (store .entry)) capacity deep (placeOf slot (childrenIn (now (store .entry)) (branch .0)) + skip) link) (sheet (now (out .entry)) progress) ⌝ }
+    ensures room { λ r. ⌜ HasRoom (now (out .exit)) r ⌝ }
+{
+    let place = child_place(store, branch, slot) + skip as usize;
+    emit(store, capacity, link, place, deep, out, progress)
+}
+
+// The entries below a link from a key on, which need not be stored. `critical` is the key's critical position with the closest leaf to it, and `up` says whether
+// that leaf is given. Down to that position the leaves agree with the key, so the slots below its nibble lie before it and those above it lie past it; what
+// stands past that position lies with the closest leaf.
+pub fn emit_after(
+    store: &[u8],
+    capacity: u16,
+    key: &[u8],
+    critical: usize,
+    up: bool,
+    link: Link,
+    deep: usize,
+    out: &mut [u8],
+    progress: Progress,
+) -> Progress
+    requires { ⌜ (start capacity ≤ length (now store)) × (numberIn (link .child) < capacity) × (HasRoom (now out) progress) ⌝ }
+    ensures is { λ r. ⌜ sheet (now (out .exit)) r ≡ puts (after (now (store .entry)) capacity (now (key .entry)) critical up deep link) (sheet (now (out .entry)) progress) ⌝ }
+    ensures room { λ r. ⌜ HasRoom (now (out .exit)) r ⌝ }
+{
+    let child = link.child;
+    match child {
+        Child::Leaf(n) => {
+            if up {
+                return give(store, capacity, n, out, progress);
+            }
+            progress
+        }
+        Child::Branch(b) => {
+            if deep == 0 {
+                return wrong(progress);
+            }
+            let position = link.position as usize;
+            if critical < position {
+                if up {
+                    return emit(store, capacity, link, 0, deep, out, progress);
+                }
+                return progress;
+            }
+            let slot = nibble(key, position);
+            match get_child(store, b, slot, capacity) {
+                Linked::To(next) => {
+                    let p = emit_after(
+                        store,
+                        capacity,
+                        key,
+                        critical,
+                        up,
+                        next,
+                        deep - 1,
+                        out,
+                        progress,
+                    );
+                    if stopped(p) {
+                        return p;
+                    }
+                    emit_from(store, capacity, link, b, slot, 1, deep, out, p)
+                }
+                Linked::Absent => emit_from(store, capacity, link, b, slot, 0, deep, out, progress),
+                Linked::Wrong => wrong(progress),
+            }
         }
     }
 }

@@ -22,7 +22,7 @@ use Rattle.sparse_array.specs.declared.Place.{Place}
 use Rattle.sparse_array.specs.declared.Put.{Put}
 use Rattle.sparse_array.specs.declared.Removed.{Removed}
 use Rattle.sparse_array.proofs.ItemLaws.{length-bitmap}
-use Rattle.sparse_array.proofs.ArrayLaws.{length-set-bytes, length-remove-bytes}
+use Rattle.sparse_array.proofs.ArrayLaws.{below-bound, length-set-bytes, length-remove-bytes}
 use Rattle.node.specs.Layout.{last, freeSize, start, arrayAt, sizeAt, valueAt, Room}
 use Rattle.node.specs.Child.{toLeaf, toBranch, decoded, itemOf}
 use Rattle.node.specs.Leaf.{keySize, leafIn, setLeaf, freeLeaf, setValue}
@@ -220,6 +220,9 @@ module _ (a : List ℕ) (slot : ℕ) (r : Place) (st : List ℕ) (n : ℕ) (p : 
 
       go : (z : Place) → z ≡ Place.At (below slot (childrenIn st n)) → of z ≡ below slot (childrenIn st n)
       go z w = ap of w
+
+  pub place-small : (i : ℕ) → r ≡ Place.At i → i ≤ 17
+  place-small i e = omega (arith, place-is i e, below-bound slot (arrayIn st n))
 
   pub place-never : r ≡ Place.Absent → 0 ≡ below slot (childrenIn st n)
   place-never e = absurd (let w : Place.Absent ≡ Place.At (below slot (childrenIn st n)) = sym e ∙ its-place in let z : _≡_ {A = ℕ} 0 1 = cc in omega arith)

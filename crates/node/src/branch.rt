@@ -58,7 +58,7 @@ pub fn child_at(store: &[u8], branch: BranchNo, place: usize, capacity: u16) -> 
 // The place of a slot: the number of present slots below it.
 pub fn child_place(store: &[u8], branch: BranchNo, slot: u8) -> usize
     requires { ⌜ (Room (now store) (branch .0)) × (slot ≤ 16) ⌝ }
-    ensures { λ r. ⌜ r ≡ below slot (childrenIn (now (store .entry)) (branch .0)) ⌝ }
+    ensures { λ r. ⌜ (r ≡ below slot (childrenIn (now (store .entry)) (branch .0))) × (r ≤ 17) ⌝ }
 {
     match sparse_array::actual_index(array(store, branch), slot) {
         Place::At(place) => place,

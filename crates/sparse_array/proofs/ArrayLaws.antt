@@ -173,6 +173,11 @@ lowest-erased a = go (decLt 0 (count (present (bitmapOf a))))
     go (yes h) = erase-lowest (present (bitmapOf a)) (itemAt a) h
     go (no h) = rw (pack-none (present (bitmapOf a)) (itemAt a) (omega arith))
 
+-- a place is at most the number of slots
+pub below-bound : (slot : ℕ) (a : List ℕ) → below slot (entries a) ≤ 17
+unfolding entries
+below-bound slot a = omega (arith, below-pack (present (bitmapOf a)) (itemAt a) slot, place-le (present (bitmapOf a)) slot, at-most (bitmapOf a))
+
 -- ---- what the bytes mean after each call
 
 module _ (a : List ℕ) (l : length a ≡ size) where

@@ -1,4 +1,4 @@
--- Outcome Bool from an accepted store: whoever has written what the cut asks, and given the records back, has an accepted store of the tree without the key.
+-- Removal from an accepted store: whoever has written what the cut asks, and given the records back, has an accepted store of the tree without the key.
 -- Assumes nothing.
 use Prim.Native.Nat.{ℕ, suc, _+_, _-_, _*_, _≤_, _<_}
 use mathlib.Core.Path.{_≡_, refl, sym, ap, subst, _∙_}

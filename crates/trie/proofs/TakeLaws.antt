@@ -265,6 +265,6 @@ module _ (st : List ℕ) (t : Tree) (acc : Accepted st (some t)) (k : List ℕ) 
       (less-fits (g .branches - 1) (g .root) f (omega arith) (root-fits st (some t) acc) (omega (arith, low)))
       (ap (λ (z : ℕ). withRoot (gave branchKind (gave leafKind g n) f) z) (acc .rooted)))))
 
-  -- Outcome Bool from an accepted store, where a lookup stood.
+  -- Removal from an accepted store, where a lookup stood.
   pub remove-means : (s : Step) → Stood st size-of low k (cut k t) Root Root s → Removes st t k (removeUnder st g n (s .at) (s .above))
   remove-means s w = by-cut (cut k t) refl s w

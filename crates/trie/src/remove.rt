@@ -1,4 +1,4 @@
-// Outcome Bool of a leaf that a descent met. "Remove takes the leaf out; a branch left with one child is replaced by that child."
+// Removal of a leaf that a descent met. "Remove takes the leaf out; a branch left with one child is replaced by that child."
 use crate::descent::Spot;
 use crate::relink::relink;
 use crate::relink::with_root;

@@ -1,5 +1,5 @@
 -- `node::branch::child_place` meets its contract: a slot up to 16 has a place. Assumes nothing.
-use Rattle.node.proofs.Contracts.{place-is, place-never}
+use Rattle.node.proofs.Contracts.{place-is, place-small, place-never}
 use borrow.Author.Needs.{needs}
 use Rattle.node.proofs.branch.child_place.Statement.{statement}
 use Rattle.node.proofs.branch.child_place.Tie as tie
@@ -17,10 +17,10 @@ enum-told : tie.Need-enum-told
 enum-told c = search needs
 
 returns : tie.Need-returns
-returns c = search (place-is, needs)
+returns c = (search (place-is, needs), search (place-small, needs))
 
 returns-2 : tie.Need-returns-2
-returns-2 c = search (place-never, needs)
+returns-2 c = (search (place-never, needs), search needs)
 
 pub child-place-spec : {M : Type 1} → statement M
 child-place-spec =
