@@ -26,10 +26,6 @@ bytes-get [] h i = omega arith
 bytes-get (b ∷ k) h zero = h .0
 bytes-get (b ∷ k) h (suc i) = bytes-get k (h .1) i
 
-pub get-bytes : (k : List ℕ) → ((i : ℕ) → getD k i 0 < 256) → Bytes k
-get-bytes [] h = tt
-get-bytes (b ∷ k) h = (h 0, get-bytes k (λ i. h (suc i)))
-
 bytes-take : (n : ℕ) (k : List ℕ) → Bytes k → Bytes (take n k)
 bytes-take zero k h = tt
 bytes-take (suc n) [] h = tt

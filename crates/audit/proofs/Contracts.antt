@@ -22,7 +22,7 @@ use Rattle.node.proofs.HeaderLaws.{good-right, blocks-fit, block-in}
 use Rattle.node.specs.declared.child.LeafNo.{LeafNo}
 use Rattle.node.specs.declared.child.Link.{Link}
 use Rattle.node.specs.declared.child.Linked.{Linked}
-use Rattle.node.specs.declared.child.Linked.the-variants.{To, Absent, Wrong}
+use Rattle.node.specs.declared.child.Linked.the-variants.{To}
 use Rattle.node.specs.declared.header.Header.{Header}
 use Rattle.node.specs.declared.header.Head.{Head}
 use Rattle.node.specs.declared.header.Head.the-variants.{Good as GoodHead, Bad as BadHead}

@@ -109,9 +109,6 @@ took st p s t t′ (Good n l b) h = go (stands st p s t n) refl h
         record { first = n; leaves = l; branches = b; is = refl; stood = stands-says st p s t n e; after = q }
 
 module _ (st : List ℕ) (cap : ℕ) (few : cap ≤ most) (bytes : Bytes st) (fits : start cap ≤ length st) where
-  abbrev M : Tree → Type 0
-  M t = Holds (memoryOf st) t
-
   -- a picture that is held below a link, with its first leaf and its counts
   pub record Held (low : ℕ) (l : Link) (n : LeafNo) (leaves branches : ℕ) : Type 0 where
     pub tree : Tree

@@ -11,11 +11,11 @@ use borrow.Author.Tests.{eq-eqb, ne-eqb, eqb-true}
 use mir.Syntax.{w8}
 use mir.Val.{Fits}
 use Rattle.model.specs.Key.{Bytes}
-use Rattle.model.specs.Numbers.{most, used}
+use Rattle.model.specs.Numbers.{most}
 use Rattle.model.specs.Picture.{Tree, Picture, Pictured}
 use Rattle.model.proofs.Bounds.{starts-zero}
 use Rattle.pictures.specs.Records.{leafTimes, branchTimes, leaves as leafCount, branches as branchCount}
-use Rattle.pictures.specs.Stored.{root, Holds, HoldsLeft}
+use Rattle.pictures.specs.Stored.{Holds, HoldsLeft}
 use Rattle.pictures.specs.Chain.{sum}
 use Rattle.pictures.proofs.ChainLaws.{below-of, sum-zero, sum-leaves, sum-branches}
 use Rattle.pictures.proofs.Tally.{fewer-branches}
@@ -36,14 +36,14 @@ use Rattle.node.specs.declared.header.Head.{Head}
 use Rattle.node.specs.declared.header.Head.the-variants.{Good as GoodHead, Bad as BadHead}
 use Rattle.trie.specs.Walk.{steps, onLinked}
 use Rattle.trie.specs.Accepted.{memoryOf, leafUses, branchUses, Rooted, Kept, Accepted}
-use Rattle.trie.proofs.HeldLaws.{Inside, link-back}
+use Rattle.trie.proofs.HeldLaws.{bytes-of, Inside, link-back}
 use Rattle.audit.specs.Walk.{seen, countsRight, treeRight}
 use Rattle.audit.specs.Accepts.{chainRight, keptRight, recordsRight, onHead, acceptsIn}
 use Rattle.audit.specs.declared.Checked.the-variants.{Done, Store}
 use Rattle.audit.specs.declared.tree.Seen.{Seen}
 use Rattle.audit.specs.declared.tree.Seen.the-variants.{Good, Bad}
 use Rattle.audit.proofs.Chained.{right-chain, chain-right}
-use Rattle.audit.proofs.Bytewise.{bytes-get, get-bytes, item-back}
+use Rattle.audit.proofs.Bytewise.{bytes-get, item-back}
 use Rattle.audit.proofs.Reached.{leaf-once, leaf-apart, branch-once, branch-apart}
 use Rattle.audit.proofs.Sees.{Held, seen-held}
 use Rattle.audit.proofs.Passes.{seen-good}
@@ -249,7 +249,7 @@ accepts-accepted st f e = go (headOf st) refl e
     go (GoodHead h) q e =
         let i : h ≡ headIn st = good-right st h q .is in
         let g : headOf st ≡ GoodHead (headIn st) = q ∙ ap GoodHead i in
-        records-told st (good-right st (headIn st) g) (get-bytes st (λ j. f j .fits)) (subst (λ (z : Header). recordsRight st z ≡ true) i e) g
+        records-told st (good-right st (headIn st) g) (bytes-of st f) (subst (λ (z : Header). recordsRight st z ≡ true) i e) g
 
 pub accepted-accepts : (st : List ℕ) (o : Option Tree) → Accepted st o → acceptsIn st ≡ true
 unfolding acceptsIn

@@ -1,10 +1,10 @@
 -- The loops that move bytes within a slice: each invariant is the contract at the loop's present place. Assumes nothing.
-use mathlib.Core.Path.{_≡_, refl, sym, ap, _∙_}
+use mathlib.Core.Path.{_≡_, refl, ap, _∙_}
 use mathlib.Core.List.{List, [], _∷_, _++_}
-use Prim.Native.Nat.{ℕ, zero, suc, _+_, _-_, _≤_, _<_}
+use Prim.Native.Nat.{ℕ, suc, _+_, _-_, _≤_, _<_}
 use native.Mathlib.Numerals.{add-one}
 use native.Mathlib.Omega.{arith}
-use lib.ListN.{length, getD, set, take, drop, length-drop}
+use lib.ListN.{length, getD, set, drop, length-drop}
 use lib.Seq.{set-comm, take-suc, getD-drop}
 use Rattle.fields.specs.Part.{part, splice}
 use Rattle.fields.proofs.PartLaws.{length-part, part-zero, part-suc, splice-nil, splice-cons, getD-splice-below, getD-splice-above}

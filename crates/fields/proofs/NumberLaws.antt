@@ -1,16 +1,13 @@
 -- Numbers in bytes: what is written is read back, a number that lies apart from a write is as it was, a number of a part is one of the whole.
 -- Each law holds for every width and place, and for both orders of the bytes. Assumes nothing.
-use mathlib.Core.Path.{_≡_, refl, ap, ap₂, sym, _∙_}
-use mathlib.Core.Bool.{Bool, true, false, _||_}
+use mathlib.Core.Path.{_≡_, refl, ap, ap₂, _∙_}
 use mathlib.Core.List.{List, [], _∷_, reverse, reverse-reverse}
-use mathlib.Core.Logic.{_⊎_, inl, inr, ⊎-elim}
+use mathlib.Core.Logic.{⊎-elim}
 use Prim.Native.Nat.{ℕ, zero, suc, _+_, _*_, _/_, _%_, _^_, _≤_, _<_}
 use native.Mathlib.Nat.{pow-suc}
 use native.Mathlib.Numerals.{add-one, add-two, add-three}
 use native.Mathlib.Omega.{arith}
-use lib.Dec.{leb}
 use lib.ListN.{length, getD, set, length-reverse}
-use borrow.Author.Tests.{leb-true}
 use Rattle.fields.specs.Part.{part, splice, Apart}
 use Rattle.fields.specs.Number.{value, bytesAt, little, littleBytes, big, bigBytes}
 use Rattle.fields.proofs.PartLaws.{getD-part, getD-splice-below, getD-splice-above, getD-splice-in}
@@ -114,15 +111,6 @@ little-agree w xs ys a b h = rw (bytes-agree w xs ys a b h)
 pub little-below : (w : ℕ) (xs : List ℕ) (at : ℕ) → ((i : ℕ) → at ≤ i → i < at + w → getD xs i 0 < 256) → little w xs at < 256 ^ w
 unfolding little
 little-below w xs at h = value-below w xs at h
-
--- apart, by a test that numerals compute, so that `simp` finds it: a number is as it was after a write of w′ bytes elsewhere
-pub little-beside : (w w′ : ℕ) (xs : List ℕ) (a v at : ℕ) → (leb (at + w) a || leb (a + w′) at) ≡ true
-    → little w (splice xs a (littleBytes w′ v)) at ≡ little w xs at
-little-beside w w′ xs a v at t = go (leb (at + w) a) refl t
-  where
-    go : (b : Bool) → leb (at + w) a ≡ b → (b || leb (a + w′) at) ≡ true → little w (splice xs a (littleBytes w′ v)) at ≡ little w xs at
-    go true e t = little-apart w xs a (littleBytes w′ v) at (inr (leb-true (at + w) a e))
-    go false e t = little-apart w xs a (littleBytes w′ v) at (inl (omega (arith, leb-true (a + w′) at t, length-little w′ v)))
 
 -- ---- the widths in use: what a read computes from the bytes
 

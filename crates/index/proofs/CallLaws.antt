@@ -1,31 +1,29 @@
 -- A law for each way out of insert, get, overwrite and remove: from what their callees do to the bytes to their promises. Assumes nothing.
-use Prim.Native.Nat.{ℕ, suc, _≤_, _<_}
+use Prim.Native.Nat.{ℕ, _≤_, _<_}
 use mathlib.Core.Path.{_≡_, refl, sym, ap, subst, _∙_}
 use mathlib.Core.Logic.{_≢_}
-use mathlib.Core.Bool.{Bool, true, false, cond, true≢false}
+use mathlib.Core.Bool.{Bool, true, false, cond}
 use mathlib.Core.List.{List}
 use mathlib.Core.Option.{Option, none, some}
 use native.Mathlib.Omega.{arith}
-use lib.ListN.{length, getD, drop}
+use lib.ListN.{length, getD}
 use mir.Syntax.{w8, w32}
 use mir.Val.{Fits}
-use borrow.Author.Tests.{le-leb, lt-leb}
-use Rattle.model.specs.Key.{keyLimit, Bytes, IsKey}
-use Rattle.model.specs.Numbers.{most, capacityOf, used, valueBound}
-use Rattle.model.specs.Answers.{Answer, number, DONE, REPLACED, STORE, KEY, HEIGHT, FULL, ABSENT}
+use Rattle.model.specs.Key.{keyLimit, IsKey}
+use Rattle.model.specs.Numbers.{used, valueBound}
+use Rattle.model.specs.Answers.{Answer, number, KEY}
 use Rattle.model.specs.Map.{lookup, put, del}
-use Rattle.model.specs.Picture.{Tree, entries, listing, Picture, Pictured, closest, tooLong}
+use Rattle.model.specs.Picture.{Tree, Picture, Pictured, closest}
 use Rattle.model.proofs.ClosestFound.{closest-is}
 use Rattle.pictures.specs.Tree.{getT, setT, removeT}
 use Rattle.pictures.specs.Calls.{insertAnswer, insertRoot, getRoot, removeRoot}
 use Rattle.pictures.proofs.CallLaws.{get-entries}
 use Rattle.promises.specs.Meaning.{Lawful, Meaning, Means, Reply, alone}
-use Rattle.promises.specs.Says.{Says, saying, withMap, unless, keyed, newAnswer, putAnswer, storedAnswer, valueReply, insertSays, getSays, overwriteSays, removeSays}
+use Rattle.promises.specs.Says.{saying, withMap, unless, keyed, newAnswer, putAnswer, storedAnswer, valueReply, insertSays, getSays, overwriteSays, removeSays}
 use Rattle.promises.specs.Promises.{Kind, Reads, Writes, insertKinds, getKinds, overwriteKinds, removeKinds, Insert, Get, Overwrite, Remove}
-use Rattle.promises.proofs.Bridge.{Wrote, after-either, some-room, insert-answer, insert-after, get-reply, remove-reply, remove-after, overwrite-after}
+use Rattle.promises.proofs.Bridge.{Wrote, after-either, some-room, insert-answer, insert-after, get-reply, remove-after, overwrite-after}
 use Rattle.node.specs.Layout.{start, Room}
 use Rattle.node.specs.Header.{headIn, headOf}
-use Rattle.node.specs.Leaf.{leafIn, setValue}
 use Rattle.node.specs.declared.header.Header.{Header}
 use Rattle.node.specs.declared.header.Head.{Head}
 use Rattle.node.specs.declared.header.Head.the-variants.{Good, Bad}
@@ -42,12 +40,12 @@ use Rattle.trie.proofs.HeldLaws.{bytes-of}
 use Rattle.trie.proofs.PutLaws.{answerOf, Inserts, insert-means}
 use Rattle.trie.proofs.KeepLaws.{Keeps, keeps-refl, Decent, insert-decent, DecentCut, remove-decent, keeps-value, find-stands}
 use Rattle.trie.proofs.FirstLaws.{set-accepted, set-head, set-size}
-use Rattle.trie.proofs.TakeLaws.{Removes, remove-means}
+use Rattle.trie.proofs.TakeLaws.{remove-means}
 use Rattle.trie.proofs.AcceptedLaws.{few}
-use Rattle.trie.proofs.FoundLaws.{Found, Stood, find-means}
+use Rattle.trie.proofs.FoundLaws.{Found, find-means}
 use Rattle.trie.specs.declared.descent.Spot.the-variants.{Root}
 use Rattle.trie.proofs.OneLaws.{one-map}
-use Rattle.index.specs.Layout.{isGood, layout}
+use Rattle.index.specs.Layout.{layout}
 use Rattle.index.specs.Replies.{insertReply, insertedOf, getReply, changedReply}
 use Rattle.index.specs.Calls.{gotOf, gotIn, overwritten, overwrittenIn, takenOut, removed, removedIn}
 use Rattle.index.specs.declared.insert.Inserted.{Inserted}

@@ -1,7 +1,7 @@
 -- A law for each way out of a public call: from what its callees do to the bytes to its promise. Assumes nothing.
 use Prim.Native.Nat.{ℕ, _≤_, _<_}
 use mathlib.Core.Path.{_≡_, refl, sym, ap, subst, _∙_}
-use mathlib.Core.Bool.{true, false, true≢false}
+use mathlib.Core.Bool.{false}
 use mathlib.Core.List.{List}
 use mathlib.Core.Option.{Option, none, some}
 use native.Mathlib.Omega.{arith}
@@ -10,12 +10,12 @@ use lib.ListN.{length, getD}
 use mir.Syntax.{w8, w16}
 use mir.Val.{Fits}
 use borrow.Author.Tests.{lt-ltb, le-ltb, eq-eqb, ne-eqb}
-use Rattle.model.specs.Numbers.{headerSize, leastSize, capacityOf, used}
-use Rattle.model.specs.Answers.{number, DONE, STORE, ROOM}
+use Rattle.model.specs.Numbers.{headerSize, leastSize, capacityOf}
+use Rattle.model.specs.Answers.{number, DONE, ROOM}
 use Rattle.model.specs.Picture.{Tree}
 use Rattle.model.proofs.Unique.{listing-some}
 use Rattle.pictures.proofs.Tally.{leaves-length}
-use Rattle.promises.specs.Meaning.{Reply, alone}
+use Rattle.promises.specs.Meaning.{alone}
 use Rattle.promises.specs.Says.{isNothing, isEmptySays, setLimitSays}
 use Rattle.promises.specs.Promises.{Kind, isEmptyKinds, setLimitKinds, Create, IsEmpty, SetLimit}
 use Rattle.promises.proofs.Bridge.{isNone, is-empty}
@@ -30,7 +30,7 @@ use Rattle.node.proofs.HeaderLaws.{good-right, length-head, past-stays}
 use Rattle.trie.specs.Accepted.{Accepted}
 use Rattle.trie.proofs.AcceptedLaws.{no-leaves, leaf-count}
 use Rattle.trie.proofs.CreateLaws.{create-accepted}
-use Rattle.index.specs.Layout.{isGood, layout, withLimit}
+use Rattle.index.specs.Layout.{layout, withLimit}
 use Rattle.index.specs.Replies.{createReply, emptyReply, emptyOf, limitReply}
 use Rattle.index.specs.declared.is_empty.Empty.{Empty}
 use Rattle.index.specs.declared.set_limit.Limited.{Limited}

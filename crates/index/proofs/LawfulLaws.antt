@@ -1,7 +1,7 @@
 -- The layout is lawful, so that the promises over it say enough. Assumes nothing.
-use Prim.Native.Nat.{ℕ, _+_, _*_, _≤_, _<_}
+use Prim.Native.Nat.{ℕ, _≤_, _<_}
 use mathlib.Core.Path.{_≡_, refl, sym, ap, subst, _∙_}
-use mathlib.Core.Bool.{Bool, true, false, true≢false}
+use mathlib.Core.Bool.{true, true≢false}
 use mathlib.Core.List.{List, [], _∷_, _++_}
 use mathlib.Core.Option.{Option, none, some}
 use native.Mathlib.Omega.{arith}
@@ -13,7 +13,7 @@ use Rattle.pictures.specs.Records.{at, leafTimes, tallies}
 use Rattle.pictures.specs.Stored.{Holds, HoldsAll}
 use Rattle.pictures.proofs.Frame.{at-self}
 use Rattle.pictures.proofs.Tally.{leaves-length}
-use Rattle.promises.specs.Meaning.{Layout, Lawful}
+use Rattle.promises.specs.Meaning.{Lawful}
 use Rattle.node.specs.Header.{headIn, headOf}
 use Rattle.node.specs.Leaf.{leafIn}
 use Rattle.node.specs.declared.header.Header.{Header}

@@ -5,35 +5,33 @@ use Prim.Native.Nat.{ℕ, _≤_, _<_}
 use mathlib.Core.Path.{_≡_, refl, sym, ap, subst, _∙_}
 use mathlib.Core.Bool.{Bool, true, false, cond}
 use mathlib.Core.List.{List}
-use lib.Dec.{ltb}
 use lib.ListN.{length, take}
 use native.Mathlib.Omega.{arith}
 use native.Mathlib.Decide.{decLt}
 use borrow.Author.Tests.{lt-ltb, le-ltb}
-use Rattle.model.specs.Key.{keyLimit, Bytes}
-use Rattle.model.specs.Numbers.{leastSize, capacityOf, used}
+use Rattle.model.specs.Key.{Bytes}
+use Rattle.model.specs.Numbers.{leastSize, used}
 use Rattle.model.specs.Picture.{tooLong}
 use Rattle.node.specs.Layout.{start}
 use Rattle.node.specs.Header.{headOf, setHead}
-use Rattle.node.specs.Leaf.{Leaf as LeafRecord, leafIn, setValue}
+use Rattle.node.specs.Leaf.{Leaf as LeafRecord, setValue}
 use Rattle.node.specs.Create.{created}
 use Rattle.node.specs.declared.create.Made.{Made}
 use Rattle.node.specs.declared.header.Header.{Header}
 use Rattle.node.specs.declared.header.Head.{Head}
 use Rattle.node.specs.declared.header.Head.the-variants.{Good, Bad}
-use Rattle.node.proofs.HeaderLaws.{Right, good-right, length-head}
+use Rattle.node.proofs.HeaderLaws.{Right, good-right}
 use Rattle.trie.specs.Find.{findIn, Stands}
-use Rattle.trie.specs.Writes.{Outcome, outcome, Did, insertIn, removeUnder}
+use Rattle.trie.specs.Writes.{Outcome, outcome}
 use Rattle.trie.specs.declared.find.Exact.{Exact}
 use Rattle.trie.proofs.KeepLaws.{find-stands}
 use Rattle.trie.proofs.UnreadLaws.{Alike, Agrees, agrees, leaf-alike, head-alike, value-alike, find-alike, insert-alike, remove-alike, created-alike}
 use Rattle.index.specs.Layout.{withLimit}
 use Rattle.index.specs.Replies.{insertedOf}
-use Rattle.index.specs.Calls.{onHead, createCall, emptyCall, limitCall, insertedIn, insertCall, gotOf, gotIn, getCall, overwritten, overwrittenIn, overwriteCall, takenOut, removed, removedIn, removeCall}
+use Rattle.index.specs.Calls.{onHead, createCall, emptyCall, limitCall, insertedIn, insertCall, gotOf, gotIn, getCall, overwritten, overwrittenIn, overwriteCall, removed, removedIn, removeCall}
 use Rattle.index.specs.declared.changed.Changed.{Changed}
 use Rattle.index.specs.declared.get.Got.{Got}
 use Rattle.index.specs.declared.insert.Inserted.{Inserted}
-use Rattle.index.specs.declared.is_empty.Empty.{Empty}
 use Rattle.index.specs.declared.set_limit.Limited.{Limited}
 use Rattle.index.proofs.UsedLaws.{capacity-same, header-same, alike}
 

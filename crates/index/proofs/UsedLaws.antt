@@ -10,7 +10,7 @@ use lib.Dec.{leb}
 use lib.ListN.{length, take, getD}
 use lib.Seq.{getD-take}
 use borrow.Author.Tests.{le-leb, lt-leb}
-use Rattle.model.specs.Numbers.{headerSize, blockSize, leastSize, capacityOf, used}
+use Rattle.model.specs.Numbers.{headerSize, leastSize, capacityOf, used}
 use Rattle.model.specs.Picture.{Tree}
 use Rattle.fields.specs.Number.{little}
 use Rattle.fields.proofs.NumberLaws.{little-agree}

@@ -29,7 +29,7 @@ use Rattle.trie.specs.declared.insert.Put.{Put}
 use Rattle.trie.proofs.find.Exact.{enum}
 use Rattle.index.specs.Layout.{withLimit}
 use Rattle.index.specs.Replies.{emptyOf, insertedOf}
-use Rattle.index.specs.Calls.{onHead, behind, createCall, emptyCall, limitCall, insertedIn, insertCall, refusedGet, gotOf, gotIn, getCall, refusedChange, overwritten, overwrittenIn, overwriteCall, takenOut, removed, removedIn, removeCall}
+use Rattle.index.specs.Calls.{behind, createCall, emptyCall, limitCall, insertedIn, insertCall, refusedGet, gotOf, gotIn, getCall, refusedChange, overwritten, overwrittenIn, overwriteCall, removed, removedIn, removeCall}
 use Rattle.index.specs.declared.changed.Changed.{Changed}
 use Rattle.index.specs.declared.get.Got.{Got}
 use Rattle.index.specs.declared.insert.Inserted.{Inserted}

@@ -18,7 +18,6 @@ use Rattle.node.specs.declared.header.Head.the-variants.{Good, Bad}
 use Rattle.trie.specs.Find.{findIn}
 use Rattle.trie.specs.Writes.{Outcome, outcome, insertIn, removeUnder}
 use Rattle.trie.specs.declared.find.Exact.{Exact}
-use Rattle.trie.specs.declared.insert.Put.{Put}
 use Rattle.index.specs.Layout.{withLimit}
 use Rattle.index.specs.Replies.{emptyOf, insertedOf}
 use Rattle.index.specs.declared.changed.Changed.{Changed}

@@ -7,7 +7,6 @@ use node::header::read_head;
 use node::layout::KEY_LIMIT;
 use trie::find::Exact;
 use trie::find::find_exact_leaf;
-ghost use mathlib.Core.Path.{_≡_};
 ghost use Prim.Native.Nat.{_≤_};
 ghost use lib.ListN.{length};
 ghost use Rattle.model.specs.Numbers.{most};

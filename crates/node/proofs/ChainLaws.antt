@@ -1,21 +1,18 @@
 -- The chains of free records in the bytes of a store. What taking and giving do is said once, for both kinds. Assumes nothing.
-use mathlib.Core.Path.{_≡_, refl, ap, sym, _∙_}
+use mathlib.Core.Path.{_≡_, ap, _∙_}
 use mathlib.Core.Logic.{_≢_}
 use mathlib.Core.Bool.{true}
-use mathlib.Core.List.{List, [], _∷_}
+use mathlib.Core.List.{List, _∷_}
 use mathlib.Core.Option.{some}
-use Prim.Native.Nat.{ℕ, zero, suc, _+_, _*_, _≤_, _<_}
+use Prim.Native.Nat.{ℕ, _+_, _≤_, _<_}
 use native.Mathlib.Omega.{arith}
 use lib.Dec.{eqb}
 use lib.ListN.{length}
 use borrow.Author.Tests.{lt-ltb, eq-eqb}
-use Rattle.model.specs.Numbers.{blockSize}
 use Rattle.pictures.specs.Chain.{Chain, times}
 use Rattle.pictures.proofs.ChainLaws.{chain-give}
-use Rattle.sparse_array.specs.Array.{entries}
 use Rattle.node.specs.Layout.{last, freeSize, start, Room}
-use Rattle.node.specs.Leaf.{Leaf, leafIn}
-use Rattle.node.specs.Branch.{arrayIn, childrenIn}
+use Rattle.node.specs.Leaf.{Leaf}
 use Rattle.node.specs.Chain.{Kind, Free, leaves, branches, taken}
 use Rattle.node.specs.declared.header.Header.{Header}
 use Rattle.node.proofs.HeaderLaws.{block-in}

@@ -1,5 +1,5 @@
 -- A link and its item: what is written is read back, and the item fits its 3 bytes. Assumes nothing.
-use mathlib.Core.Path.{_≡_, refl, ap, sym, _∙_}
+use mathlib.Core.Path.{_≡_, refl, _∙_}
 use Prim.Native.Nat.{ℕ, _+_, _-_, _*_, _/_, _%_, _≤_, _<_}
 use native.Mathlib.Nat.{add-mul-mod-self-right, add-mul-div-right, mod-eq-of-lt}
 use native.Mathlib.Omega.{arith}
@@ -7,7 +7,7 @@ use mathlib.Core.Bool.{Bool, true, false, cond}
 use lib.Dec.{ltb}
 use borrow.Author.Tests.{lt-ltb, le-ltb, ltb-true}
 use Rattle.model.specs.Numbers.{most}
-use Rattle.node.specs.Child.{toLeaf, toBranch, decoded, linkOf, numberIn, codeOf, itemOf}
+use Rattle.node.specs.Child.{toLeaf, toBranch, linkOf, numberIn, codeOf, itemOf}
 use Rattle.node.specs.declared.child.Child.{Child}
 use Rattle.node.specs.declared.child.Child.the-variants.{Leaf, Branch}
 use Rattle.node.specs.declared.child.Link.{Link}

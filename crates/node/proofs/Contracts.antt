@@ -1,17 +1,17 @@
 -- A law for each way out of a function: from its callees' contracts to its own. Assumes nothing.
 use mathlib.Core.Path.{_≡_, refl, sym, ap, _∙_}
-use mathlib.Core.Bool.{Bool, true, false, cond, _&&_}
+use mathlib.Core.Bool.{Bool, true, false}
 use mathlib.Core.Option.{Option, none, some}
 use mathlib.Core.List.{List, [], _∷_, _++_}
-use Prim.Native.Nat.{ℕ, _+_, _-_, _*_, _/_, _%_, _≤_, _<_, min}
+use Prim.Native.Nat.{ℕ, _+_, _-_, _≤_, _<_}
 use native.Mathlib.Numerals.{add-one}
 use native.Mathlib.Omega.{arith}
-use lib.Dec.{leb, ltb, eqb}
+use lib.Dec.{leb, eqb}
 use lib.ListN.{length, getD, take, drop, length-take}
 use borrow.Author.Tests.{lt-ltb, le-ltb, le-leb, lt-leb, eq-eqb, ne-eqb}
 use Rattle.model.specs.Key.{keyLimit}
-use Rattle.model.specs.Numbers.{headerSize, blockSize, most, leastSize, capacityOf}
-use Rattle.fields.specs.Part.{part, splice}
+use Rattle.model.specs.Numbers.{most, leastSize, capacityOf}
+use Rattle.fields.specs.Part.{splice}
 use Rattle.fields.specs.Number.{little, littleBytes}
 use Rattle.fields.proofs.PartLaws.{lent, lent-back, length-part, length-splice}
 use Rattle.sparse_array.specs.Entries.{lookup, nth, below, head, erase}
@@ -29,7 +29,7 @@ use Rattle.node.specs.Leaf.{keySize, leafIn, setLeaf, freeLeaf, setValue
 use Rattle.node.specs.Branch.{arrayIn, childrenIn, freeBranch, linked, linkedGot, linkedIn, headLink, nearIn, setArray, setChild, removeChild, twoSlots, makeBranch}
 use Rattle.node.specs.Chain.{Kind, leaves, branches, taken, asLeaf, asBranch, takenLeaf, takenBranch, gaveLeaf, gaveBranch}
 use Rattle.node.specs.Create.{nextAfter, freedBelow, newHead, created, Created}
-use Rattle.node.specs.Header.{magic, markIn, header, headIn, rightNumbers, right, headOf, headBytes, setHead, setMark}
+use Rattle.node.specs.Header.{magic, markIn, header, headIn, headOf, setHead, setMark}
 use Rattle.node.specs.declared.child.Link.{Link}
 use Rattle.node.specs.declared.child.Linked.{Linked}
 use Rattle.node.specs.declared.child.Linked.the-variants.{To, Wrong}

@@ -2,28 +2,25 @@
 -- are the bytes past the last block. Assumes nothing.
 use mathlib.Core.Path.{_≡_, refl, ap, sym, subst, _∙_}
 use mathlib.Core.Logic.{_≢_}
-use mathlib.Core.Bool.{Bool, true, false, cond}
+use mathlib.Core.Bool.{true, cond}
 use mathlib.Core.List.{List, [], _∷_}
-use Prim.Native.Nat.{ℕ, zero, suc, _+_, _*_, _≤_, _<_}
+use Prim.Native.Nat.{ℕ, zero, suc, _+_, _≤_, _<_}
 use native.Mathlib.Decide.{ℕ-discrete, decLt}
 use native.Mathlib.Omega.{arith}
 use lib.Dec.{eqb, ltb}
 use lib.ListN.{length, drop}
 use borrow.Author.Tests.{lt-ltb, le-ltb}
-use Rattle.model.specs.Numbers.{headerSize, blockSize, leastSize, capacityOf, most, used}
-use Rattle.sparse_array.specs.Array.{entries}
-use Rattle.pictures.specs.Chain.{Chain}
+use Rattle.model.specs.Numbers.{leastSize, capacityOf, most, used}
 use Rattle.node.specs.Layout.{last, freeSize, start, Room}
 use Rattle.node.specs.Header.{magic, markIn, setHead, setMark, headOf, headIn}
 use Rattle.node.specs.Leaf.{Leaf, leafIn}
-use Rattle.node.specs.Branch.{arrayIn, childrenIn}
-use Rattle.node.specs.Chain.{Kind, Free, leaves, branches}
-use Rattle.node.specs.Create.{madeNumber, madeOf, nextAfter, freedBelow, newHead, created, Created}
-use Rattle.node.specs.declared.create.Made.{Made}
+use Rattle.node.specs.Branch.{arrayIn}
+use Rattle.node.specs.Chain.{Kind, leaves, branches}
+use Rattle.node.specs.Create.{nextAfter, freedBelow, newHead, created}
 use Rattle.node.specs.declared.header.Head.the-variants.{Good}
 use Rattle.node.proofs.RecordLaws.{leaf-freed, branch-freed}
-use Rattle.node.proofs.HeaderLaws.{Fits, Right, right-good, head-back, length-head, mark-stays, leaf-stays, array-stays, past-stays, length-mark, mark-back, leaf-past-mark, array-past-mark, past-mark, blocks-fit, block-in, few}
-use Rattle.node.proofs.ChainLaws.{ChainIn, Lawful, leaves-lawful, branches-lawful}
+use Rattle.node.proofs.HeaderLaws.{Fits, right-good, head-back, length-head, mark-stays, leaf-stays, array-stays, past-stays, length-mark, mark-back, leaf-past-mark, array-past-mark, past-mark, blocks-fit, few}
+use Rattle.node.proofs.ChainLaws.{ChainIn, leaves-lawful, branches-lawful}
 
 -- record r of both kinds is free, with x after it
 pub record FreeBoth (st : List ℕ) (r x : ℕ) : Type 0 where
@@ -209,11 +206,3 @@ module _ (limit : ℕ) (st : List ℕ) (small : limit < 65536) (long : leastSize
   create-branches =
       chain-all branches (created limit st) (capacityOf (length st))
       (λ r h. let f = create-free limit st small long r h in (f .branch, f .branch-next)) (omega arith)
-
--- ROOM, by document 01's number, changes no byte
-pub create-kept : (limit : ℕ) (st st′ : List ℕ) (r : Made) → Created limit st st′ r → 10 ≤ madeNumber r → st′ ≡ st
-create-kept limit st st′ r w h = go (ltb (length st) leastSize) refl
-  where
-    go : (b : Bool) → ltb (length st) leastSize ≡ b → st′ ≡ st
-    go true e = w .bytes ∙ rw e
-    go false e = absurd (omega (arith, rw (w .answer ∙ ap madeOf e) at h))

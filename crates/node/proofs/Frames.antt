@@ -1,21 +1,21 @@
 -- What a write leaves: the header, the records of other blocks, the other record of its own block, and all past the last block are as they were.
 -- Assumes nothing.
-use mathlib.Core.Path.{_≡_, refl, ap, sym, _∙_}
-use mathlib.Core.Logic.{_≢_, _⊎_, inl, inr}
-use mathlib.Core.List.{List, [], _∷_}
-use Prim.Native.Nat.{ℕ, _+_, _*_, _≤_, _<_, min}
+use mathlib.Core.Path.{_≡_, _∙_}
+use mathlib.Core.Logic.{_≢_, inl, inr}
+use mathlib.Core.List.{List}
+use Prim.Native.Nat.{ℕ, _+_, _≤_, _<_}
 use native.Mathlib.Decide.{decLt}
 use native.Mathlib.Omega.{arith}
 use lib.ListN.{length, getD, drop}
 use Rattle.model.specs.Key.{keyLimit}
 use Rattle.model.specs.Numbers.{headerSize, blockSize}
-use Rattle.fields.specs.Part.{part, splice, Apart}
+use Rattle.fields.specs.Part.{splice, Apart}
 use Rattle.fields.proofs.PartLaws.{length-splice, getD-splice-below, getD-splice-above, part-splice-apart, drop-splice}
 use Rattle.fields.proofs.NumberLaws.{little-apart}
 use Rattle.sparse_array.specs.Array.{size}
 use Rattle.node.specs.Layout.{start, arrayAt, sizeAt, valueAt}
 use Rattle.node.specs.Header.{markIn, headIn}
-use Rattle.node.specs.Leaf.{Leaf, keySize, leafIn}
+use Rattle.node.specs.Leaf.{keySize, leafIn}
 use Rattle.node.specs.Branch.{arrayIn}
 
 -- What a write within block n leaves of the rest.
@@ -26,9 +26,6 @@ pub record OtherBlocks (n : ℕ) (st st′ : List ℕ) : Type 0 where
   pub leaves : (m : ℕ) → m ≢ n → leafIn st′ m ≡ leafIn st m
   pub arrays : (m : ℕ) → m ≢ n → arrayIn st′ m ≡ arrayIn st m
   pub past : (cap : ℕ) → n < cap → drop (start cap) st′ ≡ drop (start cap) st
-
-pub others-refl : (n : ℕ) (st : List ℕ) → OtherBlocks n st st
-others-refl n st = record { size = refl; mark = refl; head = refl; leaves = λ m ne. refl; arrays = λ m ne. refl; past = λ cap h. refl }
 
 pub others-then : {n : ℕ} {st st′ st″ : List ℕ} → OtherBlocks n st st′ → OtherBlocks n st′ st″ → OtherBlocks n st st″
 others-then k l = record {

@@ -1,20 +1,19 @@
 -- The header's numbers once they are written, and what that leaves. Assumes nothing.
-use mathlib.Core.Path.{_≡_, refl, ap, sym, _∙_}
+use mathlib.Core.Path.{_≡_, refl, sym}
 use mathlib.Core.Logic.{inl, inr}
 use mathlib.Core.Bool.{Bool, true, false, cond, _&&_, true≢false}
-use mathlib.Core.List.{List, [], _∷_, _++_}
-use Prim.Native.Nat.{ℕ, _+_, _*_, _^_, _≤_, _<_}
+use mathlib.Core.List.{List}
+use Prim.Native.Nat.{ℕ, _+_, _^_, _≤_, _<_}
 use native.Mathlib.Omega.{arith}
 use lib.Dec.{leb, eqb}
 use lib.ListN.{length, drop}
 use borrow.Author.Tests.{le-leb, eq-eqb, leb-true, eqb-true}
-use Rattle.model.specs.Numbers.{headerSize, blockSize, leastSize, capacityOf, most}
-use Rattle.fields.specs.Part.{splice}
-use Rattle.fields.specs.Number.{value, bytesAt, little, littleBytes}
+use Rattle.model.specs.Numbers.{headerSize, leastSize, capacityOf, most}
+use Rattle.fields.specs.Number.{bytesAt, little, littleBytes}
 use Rattle.fields.proofs.PartLaws.{length-splice, drop-splice}
 use Rattle.fields.proofs.NumberLaws.{value-little, length-little, bytes-in, little-same, little-apart}
-use Rattle.node.specs.Layout.{start, arrayAt, sizeAt, valueAt, Room}
-use Rattle.node.specs.Header.{magic, markIn, header, headIn, right, headOf, headBytes, setHead, setMark}
+use Rattle.node.specs.Layout.{start, Room}
+use Rattle.node.specs.Header.{magic, markIn, headIn, right, headOf, headBytes, setHead, setMark}
 use Rattle.node.specs.Leaf.{leafIn}
 use Rattle.node.specs.Branch.{arrayIn}
 use Rattle.node.specs.declared.header.Header.{Header}

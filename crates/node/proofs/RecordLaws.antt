@@ -2,25 +2,25 @@
 use mathlib.Core.Path.{_≡_, refl, ap, sym, _∙_}
 use mathlib.Core.Logic.{inl, inr}
 use mathlib.Core.List.{List, [], _∷_}
-use Prim.Native.Nat.{ℕ, _+_, _*_, _%_, _≤_, _<_, min}
+use Prim.Native.Nat.{ℕ, _+_, _%_, _≤_, _<_, min}
 use native.Mathlib.Decide.{ℕ-discrete}
 use native.Mathlib.Omega.{arith}
 use borrow.Author.Tests.{le-leb, le-ltb, ne-eqb}
-use lib.ListN.{length, getD, drop}
+use lib.ListN.{length, getD}
 use Rattle.model.specs.Key.{keyLimit}
-use Rattle.model.specs.Numbers.{headerSize, blockSize, valueBound, most}
-use Rattle.fields.specs.Part.{part, splice}
+use Rattle.model.specs.Numbers.{valueBound, most}
+use Rattle.fields.specs.Part.{splice}
 use Rattle.fields.specs.Number.{little, littleBytes}
 use Rattle.fields.proofs.PartLaws.{length-splice, getD-splice-below, getD-splice-above, getD-splice-in, part-splice-same, part-splice-apart, length-part}
 use Rattle.fields.proofs.NumberLaws.{length-little, little-same, little-apart}
-use Rattle.sparse_array.specs.Entries.{Entry, insert, erase}
+use Rattle.sparse_array.specs.Entries.{insert, erase}
 use Rattle.sparse_array.specs.Bits.{bitsOf}
 use Rattle.sparse_array.specs.Array.{size, bitmapOf, entries, withSlot, withoutSlot, cleared}
 use Rattle.sparse_array.proofs.ItemLaws.{length-bitmap, bitmap-new}
 use Rattle.sparse_array.proofs.ArrayLaws.{set-means, remove-means, clear-means, empty, length-set-bytes, length-remove-bytes}
 use Rattle.node.specs.Layout.{start, arrayAt, sizeAt, valueAt, freeSize, Room}
 use Rattle.node.specs.Child.{itemOf, numberIn}
-use Rattle.node.specs.Leaf.{Leaf, Is, keySize, leafIn, setLeaf, setValue, freeLeaf}
+use Rattle.node.specs.Leaf.{Is, keySize, leafIn, setLeaf, setValue, freeLeaf}
 use Rattle.node.specs.Branch.{arrayIn, childrenIn, afterIn, setArray, setChild, removeChild, twoSlots, makeBranch, freeBranch}
 use Rattle.node.specs.declared.child.Link.{Link}
 use Rattle.node.proofs.ChildLaws.{item-fits}

@@ -7,18 +7,12 @@ use mathlib.Core.List.{List}
 use lib.ListN.{length}
 use lib.Dec.{ltb}
 use Rattle.model.specs.Numbers.{leastSize, capacityOf}
-use Rattle.model.specs.Answers.{number, DONE, ROOM}
 use Rattle.node.specs.Layout.{last}
 use Rattle.node.specs.Header.{header, setHead, setMark}
 use Rattle.node.specs.Chain.{leaves, branches}
 use Rattle.node.specs.declared.header.Header.{Header}
 use Rattle.node.specs.declared.create.Made.{Made}
 use Rattle.node.specs.declared.create.Made.the-variants.{Done, Room}
-
--- document 01's number of each answer
-abbrev pub madeNumber : Made → ℕ
-madeNumber Done = number DONE
-madeNumber Room = number ROOM
 
 -- the number after r in a chain of all records of some capacity
 abbrev pub nextAfter : ℕ → ℕ → ℕ

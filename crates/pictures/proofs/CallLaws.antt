@@ -1,7 +1,7 @@
 -- The calls on a store's whole content, nothing or a tree: what they do to the map.
 -- Assumes nothing.
 use Prim.Native.Nat.{ℕ}
-use mathlib.Core.Path.{_≡_, refl, sym, _∙_, ap, subst}
+use mathlib.Core.Path.{_≡_, refl, sym, _∙_, ap}
 use mathlib.Core.List.{List}
 use mathlib.Core.Option.{Option, none, some}
 use mathlib.Core.Logic.{_≢_}
@@ -41,7 +41,3 @@ remove-entries k (some t) h = remove-del k t h .lists
 pub overwrite-listing : (k : List ℕ) (v : ℕ) (t : Tree) → Picture t → IsKey k → lookup k (listing t) ≢ none → listing (setT k v t) ≡ put k v (listing t)
 overwrite-listing k v t h i d =
     ap listing (sym (key-same (closest-is k t h d) (setT k v t) (insertAt (newFor 0 0 k v (closest k t .key)) t))) ∙ insert-entries 0 0 k v (some t) i h
-
-pub overwrite-picture : (k : List ℕ) (v : ℕ) (t : Tree) → Picture t → IsKey k → lookup k (listing t) ≢ none → Picture (setT k v t)
-overwrite-picture k v t h i d =
-    subst Picture (key-same (closest-is k t h d) (setT k v t) (insertAt (newFor 0 0 k v (closest k t .key)) t)) (insert-pictured 0 0 k v (some t) i h)

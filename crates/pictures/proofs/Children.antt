@@ -6,13 +6,12 @@ use mathlib.Core.Path.{_≡_, refl, sym, _∙_, ap, subst}
 use mathlib.Core.Logic.{_⊎_, inl, inr}
 use mathlib.Core.List.{List, _∷_}
 use mathlib.Core.Option.{none, some}
-use native.Mathlib.Omega.{arith}
 use native.Mathlib.Decide.{ℕ-discrete}
 use Rattle.model.specs.Key.{onEqual}
 use Rattle.model.specs.Picture.{Tree, leaf, branch, Kids, end, kid, Every, Everys, StartsAt, Below, Picture, Pictures, Descent, closest, closestK}
 use Rattle.model.proofs.Compare.{compare-self, number-other}
 use Rattle.pictures.specs.Tree.{getT, getK, New, insertAt, insertK, setT, setK}
-use Rattle.pictures.specs.Stored.{Child, root, Row, row, childAt, setRow, Memory, Holds, HoldsAll, At, here, there, Lacks, below, site, siteK}
+use Rattle.pictures.specs.Stored.{root, Row, row, childAt, setRow, Memory, Holds, HoldsAll, At, here, there, Lacks, below, site, siteK}
 
 -- Induction: a statement on trees holds of a branch if it holds of the child in each of its slots.
 at-end : {s : ℕ} {u : Tree} → At s u end → ⊥
@@ -116,18 +115,3 @@ pub row-same : (v : Tree) {s : ℕ} {u : Tree} {ks : Kids} → At s u ks → roo
 row-same v {s} (here {ks}) e = rw (compare-self s) (ap {B = Row} (λ z. (s, z) ∷ row ks) e)
 row-same v {s} (there {r} {t} {ks} d a) e =
     ap row (number-other d (kid r v ks) (kid r t (replace s v ks))) ∙ ap {B = Row} (λ z. (r, root t) ∷ z) (row-same v a e)
-
--- What a branch's record has in a slot is a child of the branch.
-pub row-child : (s : ℕ) (ks : Kids) (c : Child) → childAt s (row ks) ≡ some c → (u : Tree) × At s u ks × (root u ≡ c)
-row-child s ks c e = go (at-or-lacks s ks)
-  where
-    go : ((u : Tree) × At s u ks) ⊎ Lacks s ks → (u : Tree) × At s u ks × (root u ≡ c)
-    go (inl (u, a)) = (u, a, let h = row-at a in cc)
-    go (inr d) = absurd (let h = row-lacks s ks d in let z : _≡_ {A = ℕ} 0 1 = cc in omega arith)
-
-pub row-none : (s : ℕ) (ks : Kids) → childAt s (row ks) ≡ none → Lacks s ks
-row-none s ks e = go (at-or-lacks s ks)
-  where
-    go : ((u : Tree) × At s u ks) ⊎ Lacks s ks → Lacks s ks
-    go (inl (u, a)) = absurd (let h = row-at a in let z : _≡_ {A = ℕ} 0 1 = cc in omega arith)
-    go (inr d) = d

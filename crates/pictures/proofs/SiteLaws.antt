@@ -6,15 +6,14 @@ use mathlib.Core.Bool.{Bool, true, false, _||_}
 use mathlib.Core.List.{List}
 use native.Mathlib.Omega.{arith}
 use lib.Dec.{isEq}
-use Rattle.model.specs.Key.{onEqual}
 use Rattle.model.specs.Map.{choose}
 use Rattle.model.specs.Nibble.{nibble}
-use Rattle.model.specs.Picture.{Tree, leaf, branch, Kids, end, kid, Picture, closest, closestK, first, member}
+use Rattle.model.specs.Picture.{Tree, branch, Kids, Picture, closest, closestK, first, member}
 use Rattle.model.proofs.Compare.{Said, lower, same, higher, said}
 use Rattle.model.proofs.Closest.{Some}
 use Rattle.model.proofs.Bounds.{Rises, path-rises, place-bound, member-low}
 use Rattle.pictures.specs.Tree.{New}
-use Rattle.pictures.specs.Stored.{Child, toBranch, root, Site, whole, grows, under, below, site, siteK}
+use Rattle.pictures.specs.Stored.{toBranch, Site, whole, grows, under, below, site, siteK}
 use Rattle.pictures.proofs.Children.{tree-ind, picture-at, closest-at, site-at}
 use Rattle.pictures.proofs.Insert.{Near, near-slot}
 use Rattle.pictures.proofs.Frame.{child-of}
@@ -50,27 +49,3 @@ module _ (x : New) where
       step n p ks ps r f (lower q) = sym (member-low (x .place) (suc p) ps (omega arith) r)
       step n p ks ps r f (same q) = refl
       step n p ks ps r f (higher q) = f q
-
-  -- What a new root displaces is the root.
-  whole-below : (n s : ℕ) (z : Site) (c : Child) → below n s z ≡ whole c → ⊥
-  whole-below n s (whole d) c e = let z : _≡_ {A = ℕ} 0 1 = cc in omega arith
-  whole-below n s (grows m) c e = let z : _≡_ {A = ℕ} 0 1 = cc in omega arith
-  whole-below n s (under m r d) c e = let z : _≡_ {A = ℕ} 0 1 = cc in omega arith
-
-  whole-kids : (n s : ℕ) (ks : Kids) (c : Child) → siteK x n s ks ≡ whole c → ⊥
-  whole-kids n s end c e = let z : _≡_ {A = ℕ} 0 1 = cc in omega arith
-  whole-kids n s (kid r t ks) c e = go (said s r) e (λ q. whole-kids n s ks c q)
-    where
-      go : {o : Ordering} → Said s r o → onEqual o (below n s (site x t)) (siteK x n s ks) ≡ whole c → (siteK x n s ks ≡ whole c → ⊥) → ⊥
-      go (lower h) e ih = ih e
-      go (same h) e ih = whole-below n s (site x t) c e
-      go (higher h) e ih = ih e
-
-  pub site-whole : (t : Tree) (c : Child) → site x t ≡ whole c → c ≡ root t
-  site-whole (leaf n k v) c e = cc
-  site-whole (branch n p ks) c e = go (said (x .place) p) e
-    where
-      go : {o : Ordering} → Said (x .place) p o → choose o (whole (toBranch n p)) (grows n) (siteK x n (nibble (x .key) p) ks) ≡ whole c → c ≡ toBranch n p
-      go (lower h) e = cc
-      go (same h) e = absurd (let z : _≡_ {A = ℕ} 0 1 = cc in omega arith)
-      go (higher h) e = absurd (whole-kids n (nibble (x .key) p) ks c e)

@@ -1,16 +1,15 @@
 -- A law for each way out of a function: from its callees' contracts to its own. `bits` is the bitmap as the code holds it. Assumes nothing.
 use mathlib.Core.Path.{_≡_, refl, sym, ap, _∙_}
-use mathlib.Core.Bool.{Bool, true, false, cond}
-use mathlib.Core.Option.{none, some}
+use mathlib.Core.Bool.{Bool, true, false}
+use mathlib.Core.Option.{some}
 use mathlib.Core.List.{List}
 use Prim.Native.Nat.{ℕ, zero, suc, _≤_, _<_}
 use native.Mathlib.Omega.{arith}
-use lib.Dec.{leb, eqb}
 use lib.ListN.{length, getD, set, take}
 use borrow.Author.Tests.{le-leb, lt-leb}
 use Rattle.sparse_array.specs.Bits.{count, lowest}
 use Rattle.sparse_array.specs.Entries.{Entry, pack, lookup, nth, head, erase}
-use Rattle.sparse_array.specs.Array.{size, bitmapOf, present, itemAt, entries, withItem, withBitmap, opened, closed, isIn, withSlot, withoutSlot, withoutLowest}
+use Rattle.sparse_array.specs.Array.{bitmapOf, present, itemAt, entries, withItem, withBitmap, opened, closed, withSlot, withoutSlot, withoutLowest}
 use Rattle.sparse_array.specs.Answers.{got, gotOrHead, here, placed, WasSet, WasRemoved, WasPopped}
 use Rattle.sparse_array.specs.declared.Got.{Got}
 use Rattle.sparse_array.specs.declared.Got.the-variants.{Item, Absent}

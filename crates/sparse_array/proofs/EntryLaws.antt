@@ -8,7 +8,7 @@ use Prim.Native.Nat.{ℕ, zero, suc, _≤_, _<_, zero-le, suc-le-suc}
 use native.Mathlib.Nat.{not-suc-le-zero, le-of-suc-le-suc, le-suc, le-trans, zero-lt-suc, suc-inj}
 use native.Mathlib.Omega.{arith}
 use lib.ListN.{length, getD, set, take, drop, length-map}
-use lib.Dec.{eqb, ltb, eqb·zero-suc, eqb·suc-zero, eqb·suc-suc, leb·suc-suc, leb·zero, leb·suc-zero}
+use lib.Dec.{eqb, eqb·zero-suc, eqb·suc-zero, eqb·suc-suc, leb·suc-suc, leb·zero, leb·suc-zero}
 use Rattle.sparse_array.specs.Bits.{count, lowest}
 use Rattle.sparse_array.specs.Entries.{Entry, up, pack, lookup, nth, head, tail, insert, erase, below, Rising}
 

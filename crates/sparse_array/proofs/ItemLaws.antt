@@ -1,5 +1,5 @@
 -- The laws of one write into the 55 bytes: what is written is there, and the rest is as it was. Assumes nothing.
-use mathlib.Core.Path.{_≡_, refl, ap, sym, _∙_}
+use mathlib.Core.Path.{_≡_, ap, _∙_}
 use mathlib.Core.Logic.{inl, inr}
 use mathlib.Core.List.{List}
 use Prim.Native.Nat.{ℕ, suc, _+_, _-_, _*_, _%_, _≤_, _<_}
@@ -49,7 +49,7 @@ bitmap-new a v l h = let e = little-same 4 a 0 v (omega arith) (omega arith) in 
 pub item-kept : (a : List ℕ) (v i : ℕ) → itemAt (withBitmap a v) i ≡ itemAt a i
 item-kept a v i = little-apart 3 a 0 (littleBytes 4 v) (4 + 3 * i) (inl (omega (arith, length-little 4 v)))
 
--- ---- bytes moved: the bitmap and the items before stay, and the others stand one place on
+-- ---- bytes moved: the items before stay, and the others stand one place on
 
 moved-in : (a : List ℕ) (to from n i j : ℕ) → to + n ≤ length a → from + n ≤ length a → i * 3 + 3 ≤ n → j ≡ from + i * 3
     → little 3 (splice a to (part a from n)) (to + i * 3) ≡ little 3 a j
@@ -62,10 +62,6 @@ moved-in a to from n i j f g h e =
     rw (p, q) (getD-splice-in a to (part a from n) (i * 3 + k) (omega arith) (omega arith) ∙ getD-part a from n (i * 3 + k) (omega arith)))
 
 module _ (at n : ℕ) (a : List ℕ) (l : length a ≡ size) (h : at ≤ n) (u : n ≤ 16) where
-  pub opened-bitmap : bitmapOf (opened at n a) ≡ bitmapOf a
-  unfolding opened
-  opened-bitmap = ap (λ (x : ℕ). x % 131072) (little-apart 4 a (4 + 3 * at + 3) (part a (4 + 3 * at) (3 * (n - at))) 0 (inr (omega arith)))
-
   pub opened-below : (i : ℕ) → i < at → itemAt (opened at n a) i ≡ itemAt a i
   unfolding opened
   opened-below i k = little-apart 3 a (4 + 3 * at + 3) (part a (4 + 3 * at) (3 * (n - at))) (4 + 3 * i) (inr (omega arith))
@@ -77,10 +73,6 @@ module _ (at n : ℕ) (a : List ℕ) (l : length a ≡ size) (h : at ≤ n) (u :
       rw e (moved-in a (4 + 3 * at + 3) (4 + 3 * at) (3 * (n - at)) (i - at) (4 + 3 * i) (omega arith) (omega arith) (omega arith) (omega arith))
 
 module _ (at n : ℕ) (a : List ℕ) (l : length a ≡ size) (h : at < n) (u : n ≤ 17) where
-  pub closed-bitmap : bitmapOf (closed at n a) ≡ bitmapOf a
-  unfolding closed
-  closed-bitmap = ap (λ (x : ℕ). x % 131072) (little-apart 4 a (4 + 3 * at) (part a (4 + 3 * at + 3) (3 * (n - at - 1))) 0 (inr (omega arith)))
-
   pub closed-below : (i : ℕ) → i < at → itemAt (closed at n a) i ≡ itemAt a i
   unfolding closed
   closed-below i k = little-apart 3 a (4 + 3 * at) (part a (4 + 3 * at + 3) (3 * (n - at - 1))) (4 + 3 * i) (inr (omega arith))

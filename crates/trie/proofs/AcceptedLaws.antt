@@ -1,14 +1,13 @@
 -- What an accepted store gives: its header's numbers, its records, and the closest descent. Assumes nothing.
-use Prim.Native.Nat.{ℕ, suc, _+_, _*_, _^_, _≤_, _<_}
-use mathlib.Core.Path.{_≡_, refl, sym, ap, subst, _∙_}
+use Prim.Native.Nat.{ℕ, _+_, _^_, _≤_, _<_}
+use mathlib.Core.Path.{_≡_, sym, ap, subst, _∙_}
 use mathlib.Core.List.{List}
 use mathlib.Core.Option.{Option, none, some}
 use native.Mathlib.Omega.{arith}
 use native.Mathlib.Decide.{decLt}
 use lib.ListN.{length}
-use Rattle.model.specs.Key.{keyLimit}
-use Rattle.model.specs.Numbers.{most, capacityOf, blockSize, headerSize, leastSize, used, valueBound}
-use Rattle.model.specs.Picture.{Tree, Picture, closest}
+use Rattle.model.specs.Numbers.{most, capacityOf, headerSize, used, valueBound}
+use Rattle.model.specs.Picture.{Tree, closest}
 use Rattle.model.proofs.Bounds.{depth-bound}
 use Rattle.pictures.specs.Records.{leafTimes, branchTimes, leaves, branches}
 use Rattle.pictures.specs.Stored.{root}
@@ -17,7 +16,7 @@ use Rattle.fields.specs.Number.{little}
 use Rattle.fields.proofs.NumberLaws.{little-below, little-part}
 use Rattle.sparse_array.specs.Array.{size}
 use Rattle.node.specs.Layout.{last, start, arrayAt, valueAt}
-use Rattle.node.specs.Child.{linkOf, itemOf}
+use Rattle.node.specs.Child.{linkOf}
 use Rattle.node.specs.Header.{headIn}
 use Rattle.node.specs.Leaf.{leafIn}
 use Rattle.node.specs.Branch.{arrayIn}

@@ -1,50 +1,38 @@
 -- What the writers of an insertion write is what the site asks: the leaf, the branch over it where one is needed, the link to it, and the header.
 -- Assumes nothing.
-use Prim.Native.Nat.{ℕ, suc, _+_, _*_, _≤_, _<_, Ordering}
+use Prim.Native.Nat.{ℕ, _≤_, _<_, Ordering}
 use mathlib.Core.Path.{_≡_, refl, sym, ap, subst, _∙_}
 use mathlib.Core.Logic.{_≢_, _⊎_, inl, inr}
 use mathlib.Core.Bool.{Bool, true, false, cond}
 use mathlib.Core.List.{List, [], _∷_}
-use mathlib.Core.Option.{Option, none, some}
 use native.Mathlib.Omega.{arith}
-use native.Mathlib.Decide.{ℕ-discrete}
 use lib.Dec.{ltb}
-use lib.ListN.{length, getD}
+use lib.ListN.{length}
 use borrow.Author.Tests.{lt-ltb, le-ltb}
-use Rattle.model.specs.Key.{keyLimit, IsKey, Bytes}
-use Rattle.model.specs.Numbers.{most, used, valueBound, headerSize, blockSize}
-use Rattle.model.specs.Nibble.{nibble, critical, slotCount}
+use Rattle.model.specs.Key.{IsKey, Bytes}
+use Rattle.model.specs.Numbers.{most, valueBound, headerSize}
+use Rattle.model.specs.Nibble.{nibble}
 use Rattle.model.specs.Map.{choose}
-use Rattle.model.specs.Picture.{Tree, leaf, branch, Kids, end, kid, Picture, closest}
+use Rattle.model.specs.Picture.{Tree, leaf, branch, Kids, end, kid, Picture}
 use Rattle.model.proofs.Compare.{Said, lower, same, higher, said, number-other}
-use Rattle.model.proofs.Bounds.{place-bound}
 use Rattle.model.proofs.NibbleAt.{nibble-slot}
 use Rattle.pictures.specs.Tree.{New, newSlot}
-use Rattle.pictures.specs.Records.{branchTimes}
-use Rattle.pictures.specs.Stored.{Child, toLeaf, toBranch, root, Row, childAt, At, Lacks, Site, whole, grows, under, below, site, siteK, Changes, rootAfter}
+use Rattle.pictures.specs.Stored.{Child, toLeaf, toBranch, At, Lacks, Site, whole, grows, under, below, site, siteK}
 use Rattle.pictures.proofs.Children.{tree-ind, at-or-lacks, picture-at, site-at}
-use Rattle.pictures.proofs.Frame.{at-self}
-use Rattle.pictures.proofs.StoredInsert.{site-within}
-use Rattle.pictures.proofs.SiteLaws.{isGrow}
-use Rattle.sparse_array.specs.Entries.{Entry, insert, Rising}
+use Rattle.sparse_array.specs.Entries.{insert, Rising}
 use Rattle.sparse_array.specs.Array.{entries, withSlot}
 use Rattle.sparse_array.proofs.ArrayLaws.{rising}
 use Rattle.node.specs.Layout.{start, Room}
-use Rattle.node.specs.Child.{itemOf, numberIn, toLeaf as leafLink, toBranch as branchLink}
-use Rattle.node.specs.Header.{header, headIn, markIn, setHead}
-use Rattle.node.specs.Leaf.{Leaf, Is, leafIn, setLeaf}
+use Rattle.node.specs.Child.{itemOf, toLeaf as leafLink, toBranch as branchLink}
+use Rattle.node.specs.Header.{headIn, setHead}
+use Rattle.node.specs.Leaf.{Is, leafIn, setLeaf}
 use Rattle.node.specs.Branch.{arrayIn, childrenIn, setChild, makeBranch}
-use Rattle.node.specs.Chain.{leaves as leafKind, branches as branchKind}
 use Rattle.node.specs.declared.header.Header.{Header}
 use Rattle.node.specs.declared.child.Link.{Link}
-use Rattle.node.proofs.ChildLaws.{item-fits}
-use Rattle.node.proofs.Frames.{OtherBlocks}
 use Rattle.node.proofs.HeaderLaws.{Fits, head-back, length-head, mark-stays, leaf-stays, array-stays, block-in}
 use Rattle.node.proofs.RecordLaws.{LeafWritten, leaf-written, leaf-is, leaf-arrays, ArrayWritten, child-written, child-set, branch-written, children-made, array-leaves}
-use Rattle.trie.specs.Accepted.{linkTo, codes, memoryOf, Accepted}
-use Rattle.trie.specs.Writes.{withRoot, relinked, joined, planted}
-use Rattle.trie.specs.declared.descent.Spot.{Spot}
-use Rattle.trie.specs.declared.descent.Spot.the-variants.{Root, Under}
+use Rattle.trie.specs.Accepted.{linkTo}
+use Rattle.trie.specs.Writes.{joined}
 use Rattle.trie.proofs.HeldLaws.{Linkable, Inside, inside-at, own, linkable}
 use Rattle.trie.proofs.RowCodes.{itemTo, pairOf, codes-add, codes-set, codes-pair, insert-some, pair-some}
 use Rattle.trie.proofs.InsertLaws.{Wrote, headAfter}

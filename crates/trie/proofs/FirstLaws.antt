@@ -1,30 +1,28 @@
 -- The first key of an empty store, and a stored key's value replaced. Assumes nothing.
-use Prim.Native.Nat.{ℕ, suc, _+_, _-_, _*_, _≤_, _<_}
+use Prim.Native.Nat.{ℕ, _+_, _≤_, _<_}
 use mathlib.Core.Path.{_≡_, refl, sym, ap, subst, _∙_}
 use mathlib.Core.Logic.{_≢_}
 use mathlib.Core.Bool.{true}
-use mathlib.Core.List.{List, [], _∷_}
-use mathlib.Core.Option.{Option, none, some}
+use mathlib.Core.List.{List, _∷_}
+use mathlib.Core.Option.{none, some}
 use native.Mathlib.Omega.{arith}
 use native.Mathlib.Decide.{ℕ-discrete}
 use lib.ListN.{length, getD}
-use Rattle.model.specs.Key.{keyLimit, IsKey}
-use Rattle.model.specs.Numbers.{most, used, valueBound, headerSize}
+use Rattle.model.specs.Key.{IsKey}
+use Rattle.model.specs.Numbers.{used, valueBound}
 use Rattle.model.specs.Picture.{Tree, leaf, closest}
 use Rattle.model.proofs.Closest.{Some, closest-some}
 use Rattle.pictures.specs.Tree.{setT}
-use Rattle.pictures.specs.Records.{at, leafTimes, branchTimes}
-use Rattle.pictures.specs.Stored.{toLeaf, root}
+use Rattle.pictures.specs.Records.{at}
 use Rattle.pictures.specs.Chain.{Accounted}
-use Rattle.pictures.proofs.Put.{Put}
 use Rattle.pictures.proofs.Overwrite.{set-good}
 use Rattle.pictures.proofs.StoredSet.{AskedSet, set-stored, number-within}
 use Rattle.pictures.proofs.SetTally.{set-tally, set-root}
 use Rattle.pictures.proofs.ChainLaws.{some-free, account-take, account-keep}
 use Rattle.sparse_array.specs.Array.{entries}
-use Rattle.node.specs.Layout.{last, Room}
+use Rattle.node.specs.Layout.{last}
 use Rattle.node.specs.Child.{itemOf, toLeaf as leafLink}
-use Rattle.node.specs.Header.{headIn, markIn, setHead}
+use Rattle.node.specs.Header.{headIn, setHead}
 use Rattle.node.specs.Leaf.{Leaf, Is, leafIn, setLeaf, setValue}
 use Rattle.node.specs.Branch.{arrayIn}
 use Rattle.node.specs.Chain.{Free, leaves as leafKind, branches as branchKind}

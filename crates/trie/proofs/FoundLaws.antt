@@ -1,14 +1,13 @@
 -- Exact lookup in an accepted store: it finds the leaf that the tree has for the key, and stands where the key's removal cuts. Assumes nothing.
-use Prim.Native.Nat.{ℕ, zero, suc, _+_, _-_, _*_, _≤_, _<_, Ordering}
+use Prim.Native.Nat.{ℕ, zero, suc, _+_, _*_, _≤_, _<_, Ordering}
 use mathlib.Core.Path.{_≡_, refl, sym, ap, subst, _∙_}
 use mathlib.Core.Logic.{_≢_, _⊎_, inl, inr}
-use mathlib.Core.List.{List, [], _∷_}
+use mathlib.Core.List.{List}
 use mathlib.Core.Option.{Option, none, some}
 use native.Mathlib.Omega.{arith}
-use lib.Dec.{eqb}
 use lib.ListN.{length}
 use borrow.Author.Tests.{eq-eqb, ne-eqb}
-use Rattle.model.specs.Key.{keyLimit, order, onEqual}
+use Rattle.model.specs.Key.{keyLimit, onEqual}
 use Rattle.model.specs.Numbers.{most}
 use Rattle.model.specs.Nibble.{nibble}
 use Rattle.model.specs.Picture.{Tree, leaf, branch, Kids, end, kid, count, StartsAt, Picture, Pictures, closest, closestK, first as firstLeaf}
@@ -18,8 +17,7 @@ use Rattle.model.proofs.KeyLaws.{Ordered, before, equal, after, ordered}
 use Rattle.model.proofs.Unique.{listing-some}
 use Rattle.pictures.specs.Tree.{getT}
 use Rattle.pictures.specs.Records.{at, tallies, branchTimes}
-use Rattle.pictures.specs.Calls.{getRoot}
-use Rattle.pictures.specs.Stored.{Child, toLeaf, toBranch, root, Row, row, childAt, Holds, At, here, there, Lacks, Cut, gone, lifts, shrinks, relinks, dropRow, cutLeaf, cutAbove, cut, cutK, Touches}
+use Rattle.pictures.specs.Stored.{Child, toLeaf, toBranch, root, row, Holds, At, here, there, Lacks, Cut, gone, lifts, shrinks, relinks, cutLeaf, cutAbove, cut, Touches}
 use Rattle.pictures.proofs.Children.{tree-ind, at-or-lacks, holds-at, picture-at, get-at, get-lacks, closest-at, row-at}
 use Rattle.pictures.proofs.StoredRemove.{cut-at, cut-within, drop, row-drop}
 use Rattle.pictures.proofs.Frame.{tally-at, at-self}
@@ -29,20 +27,19 @@ use Rattle.sparse_array.proofs.ArrayLaws.{rising}
 use Rattle.node.specs.Child.{linkOf, itemOf}
 use Rattle.node.specs.Header.{headIn}
 use Rattle.node.specs.Leaf.{Is, leafIn}
-use Rattle.node.specs.Branch.{arrayIn, childrenIn, linkedIn, headLink}
+use Rattle.node.specs.Branch.{arrayIn, childrenIn, headLink}
 use Rattle.node.specs.declared.child.Linked.the-variants.{To, Absent}
 use Rattle.trie.specs.Accepted.{linkTo, codes, memoryOf, Accepted}
-use Rattle.trie.specs.Walk.{steps, step, walk, first}
-use Rattle.trie.specs.Find.{noStop, matched, onWalked, findIn}
+use Rattle.trie.specs.Walk.{steps, step, walk}
+use Rattle.trie.specs.Find.{noStop, onWalked, findIn}
 use Rattle.trie.specs.declared.descent.Spot.{Spot}
 use Rattle.trie.specs.declared.descent.Spot.the-variants.{Root, Under}
 use Rattle.trie.specs.declared.descent.Step.{Step}
-use Rattle.trie.specs.declared.descent.Walked.the-variants.{At as Reached, Missing}
 use Rattle.trie.specs.declared.find.Exact.{Exact}
 use Rattle.trie.specs.declared.find.Exact.the-variants.{Leaf, Absent as NotThere}
 use Rattle.trie.proofs.WalkLaws.{walk-leaf, walk-step}
 use Rattle.trie.proofs.RowCodes.{codes-drop, codes-high, length-codes}
-use Rattle.trie.proofs.HeldLaws.{Linkable, linkable, Inside, inside-at, own, link-at, link-lacks, link-back}
+use Rattle.trie.proofs.HeldLaws.{Linkable, linkable, Inside, inside-at, link-at, link-lacks, link-back}
 use Rattle.trie.proofs.AcceptedLaws.{few, inside, no-leaves, leaf-count, root-link}
 
 -- a row with one child less

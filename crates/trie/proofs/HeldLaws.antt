@@ -1,7 +1,7 @@
 -- The descents over the bytes of a store that holds a tree are those over the tree. Assumes nothing.
-use Prim.Native.Nat.{ℕ, zero, suc, _+_, _-_, _*_, _≤_, _<_, Ordering}
-use mathlib.Core.Path.{_≡_, refl, sym, ap, subst, _∙_}
-use mathlib.Core.Logic.{_≢_, _⊎_, inl, inr}
+use Prim.Native.Nat.{ℕ, zero, suc, _+_, _≤_, _<_, Ordering}
+use mathlib.Core.Path.{_≡_, refl, sym, ap, _∙_}
+use mathlib.Core.Logic.{_⊎_, inl, inr}
 use mathlib.Core.Bool.{cond}
 use mathlib.Core.List.{List, [], _∷_}
 use mathlib.Core.Option.{Option, none, some}
@@ -10,33 +10,28 @@ use lib.ListN.{length, getD}
 use lib.Dec.{isEq}
 use mir.Syntax.{w8}
 use mir.Val.{Fits}
-use Rattle.model.specs.Key.{keyLimit, onEqual, Bytes, IsKey}
+use Rattle.model.specs.Key.{onEqual, Bytes}
 use Rattle.model.specs.Numbers.{most}
-use Rattle.model.specs.Nibble.{nibble, slotCount}
+use Rattle.model.specs.Nibble.{nibble}
 use Rattle.model.specs.Picture.{Tree, leaf, branch, Kids, end, kid, Picture, closest, closestK, first}
 use Rattle.model.proofs.Compare.{Said, lower, same, higher, said}
 use Rattle.model.proofs.KeyLaws.{order-eq}
-use Rattle.model.proofs.NibbleAt.{nibble-slot}
 use Rattle.model.proofs.Bounds.{place-bound}
 use Rattle.model.proofs.Closest.{closest-every}
-use Rattle.pictures.specs.Tree.{getT, getK}
-use Rattle.pictures.specs.Records.{tallies, at, leafTimes, branchTimes}
-use Rattle.pictures.specs.Stored.{Child, toLeaf, toBranch, root, Row, row, childAt, Holds, HoldsAll, At, here, Lacks}
-use Rattle.pictures.proofs.Children.{tree-ind, at-or-lacks, row-at, row-lacks, holds-at, picture-at, closest-at, closest-lacks, get-at, get-lacks}
+use Rattle.pictures.specs.Tree.{getT}
+use Rattle.pictures.specs.Records.{at, leafTimes, branchTimes}
+use Rattle.pictures.specs.Stored.{Child, toLeaf, toBranch, root, Row, row, childAt, Holds, At, here, Lacks}
+use Rattle.pictures.proofs.Children.{tree-ind, at-or-lacks, row-at, row-lacks, holds-at, picture-at, closest-at, closest-lacks, get-at}
 use Rattle.pictures.proofs.Frame.{tally-at, at-self}
-use Rattle.sparse_array.specs.Entries.{lookup, head}
-use Rattle.sparse_array.specs.Answers.{orElse}
+use Rattle.sparse_array.specs.Entries.{lookup}
 use Rattle.node.specs.Child.{numberIn, linkOf, itemOf}
 use Rattle.node.specs.Leaf.{Is, leafIn}
-use Rattle.node.specs.Branch.{childrenIn, linked, linkedIn, nearIn}
+use Rattle.node.specs.Branch.{childrenIn, linkedIn, nearIn}
 use Rattle.node.specs.declared.child.Link.{Link}
-use Rattle.node.specs.declared.child.Linked.{Linked}
 use Rattle.node.specs.declared.child.Linked.the-variants.{To, Absent}
-use Rattle.node.specs.declared.child.LeafNo.{LeafNo}
 use Rattle.node.proofs.ChildLaws.{leaf-back, branch-back}
 use Rattle.trie.specs.Accepted.{linkTo, codes, memoryOf}
 use Rattle.trie.specs.Walk.{near}
-use Rattle.trie.specs.declared.descent.Closest.{Closest}
 use Rattle.trie.specs.declared.descent.Closest.the-variants.{Leaf}
 use Rattle.trie.proofs.WalkLaws.{near-leaf, near-step}
 

@@ -1,45 +1,45 @@
 -- Insertion into an accepted store: whoever has written what the site asks, and taken the first free records, has an accepted store of the tree with the key.
 -- Assumes nothing.
-use Prim.Native.Nat.{ℕ, suc, _+_, _-_, _*_, _≤_, _<_}
+use Prim.Native.Nat.{ℕ, _+_, _≤_, _<_}
 use mathlib.Core.Path.{_≡_, refl, sym, ap, subst, _∙_}
-use mathlib.Core.Logic.{_≢_, _⊎_, inl, inr}
+use mathlib.Core.Logic.{_≢_}
 use mathlib.Core.Bool.{Bool, true, false}
 use mathlib.Core.List.{List, [], _∷_}
-use mathlib.Core.Option.{Option, none, some}
+use mathlib.Core.Option.{some}
 use native.Mathlib.Omega.{arith}
 use native.Mathlib.Decide.{ℕ-discrete}
 use lib.Dec.{eqb}
 use lib.ListN.{length, getD}
 use borrow.Author.Tests.{eqb-true}
-use Rattle.model.specs.Key.{keyLimit, IsKey}
-use Rattle.model.specs.Numbers.{used, capacityOf, most}
-use Rattle.model.specs.Nibble.{nibble, critical}
+use Rattle.model.specs.Key.{IsKey}
+use Rattle.model.specs.Numbers.{used, capacityOf}
+use Rattle.model.specs.Nibble.{nibble}
 use Rattle.model.specs.Map.{pick}
-use Rattle.model.specs.Picture.{Tree, Every, Picture, closest}
+use Rattle.model.specs.Picture.{Tree, Every, closest}
 use Rattle.model.proofs.Closest.{Some, Far, closest-some, closest-far}
 use Rattle.model.proofs.KeyLaws.{critical-differs}
 use Rattle.pictures.specs.Tree.{New, newFor, insertAt}
-use Rattle.pictures.specs.Records.{at, leafTimes, branchTimes, leaves, branches}
-use Rattle.pictures.specs.Stored.{Child, root, Row, Holds, Site, site, Changes, Written, rootAfter}
+use Rattle.pictures.specs.Records.{at, leafTimes, branchTimes, leaves}
+use Rattle.pictures.specs.Stored.{Child, root, Site, site, Changes, Written, rootAfter}
 use Rattle.pictures.specs.Chain.{Accounted}
 use Rattle.pictures.proofs.Put.{Put}
 use Rattle.pictures.proofs.Insert.{Near, new-near, insert-good}
 use Rattle.pictures.proofs.Tally.{fewer-branches, insert-leaf-times, insert-branch-times}
 use Rattle.pictures.proofs.SiteLaws.{isGrow, grows-passed}
-use Rattle.pictures.proofs.StoredInsert.{Asked, Stored, insert-stored, site-within}
+use Rattle.pictures.proofs.StoredInsert.{Stored, insert-stored, site-within}
 use Rattle.pictures.proofs.ChainLaws.{some-free, account-take, account-keep}
 use Rattle.sparse_array.specs.Array.{entries}
 use Rattle.node.specs.Layout.{last, freeSize}
 use Rattle.node.specs.Child.{itemOf}
-use Rattle.node.specs.Header.{magic, markIn, header, headIn, headOf}
+use Rattle.node.specs.Header.{markIn, header, headIn, headOf}
 use Rattle.node.specs.Leaf.{Leaf, Is, leafIn}
 use Rattle.node.specs.Branch.{arrayIn, childrenIn}
-use Rattle.node.specs.Chain.{Kind, Free, leaves as leafKind, branches as branchKind}
+use Rattle.node.specs.Chain.{Free, leaves as leafKind, branches as branchKind}
 use Rattle.node.specs.declared.header.Header.{Header}
 use Rattle.node.specs.declared.header.Head.the-variants.{Good}
 use Rattle.node.proofs.HeaderLaws.{Right, right-good}
-use Rattle.trie.specs.Accepted.{linkTo, memoryOf, leafUses, branchUses, Kept, Accepted}
-use Rattle.trie.proofs.AcceptedLaws.{right, few, few-last, leaf-count, branch-count}
+use Rattle.trie.specs.Accepted.{linkTo, memoryOf, leafUses, branchUses, Accepted}
+use Rattle.trie.proofs.AcceptedLaws.{right, few-last, leaf-count, branch-count}
 
 -- a header is right again where the mark, the capacity and the length are as they were
 pub right-again : (st st′ : List ℕ) → Right st (headIn st) → length st′ ≡ length st → markIn st′ ≡ markIn st → headIn st′ .capacity ≡ headIn st .capacity
@@ -151,9 +151,6 @@ module _ (st : List ℕ) (t : Tree) (acc : Accepted st (some t)) (k : List ℕ) 
 
     same-capacity : headIn st′ .capacity ≡ headIn st .capacity
     same-capacity = ap (λ (z : Header). z .capacity) (w .head)
-
-    below-old : {n : ℕ} → n < headIn st′ .capacity → n < headIn st .capacity
-    below-old h = omega (arith, same-capacity)
 
     -- the leaf records
     taken-leaf : Free leafKind st′ (headIn st .capacity) (headIn st .leaf) → ⊥

@@ -1,16 +1,15 @@
 -- What insertion and removal keep on any bytes: the length, all past the last block, and, where they are refused, every byte. Assumes nothing.
-use Prim.Native.Nat.{ℕ, zero, suc, _+_, _-_, _*_, _≤_, _<_, Ordering}
-use mathlib.Core.Path.{_≡_, refl, sym, ap, subst, _∙_}
+use Prim.Native.Nat.{ℕ, zero, suc, _+_, _≤_, _<_, Ordering}
+use mathlib.Core.Path.{_≡_, refl, sym, subst, _∙_}
 use mathlib.Core.Bool.{Bool, true, false, cond, _&&_}
-use mathlib.Core.List.{List, [], _∷_}
+use mathlib.Core.List.{List}
 use mathlib.Core.Option.{Option, none, some}
 use native.Mathlib.Omega.{arith}
 use lib.Dec.{eqb, leb, ltb}
 use lib.ListN.{length, drop}
 use borrow.Author.Tests.{ltb-true}
-use Rattle.model.specs.Key.{keyLimit, Bytes, order, onEqual}
-use Rattle.model.specs.Numbers.{most}
-use Rattle.model.specs.Nibble.{nibble, critical, slotCount}
+use Rattle.model.specs.Key.{keyLimit, Bytes, onEqual}
+use Rattle.model.specs.Nibble.{nibble, critical}
 use Rattle.model.specs.Answers.{number}
 use Rattle.model.proofs.KeyLaws.{Ordered, before, equal, after, ordered}
 use Rattle.model.proofs.NibbleAt.{nibble-slot}
@@ -20,12 +19,10 @@ use Rattle.node.specs.Layout.{start, Room}
 use Rattle.node.specs.Child.{numberIn, linkOf, toLeaf, toBranch}
 use Rattle.node.specs.Header.{setHead}
 use Rattle.node.specs.Leaf.{leafIn, setLeaf, setValue, freeLeaf}
-use Rattle.node.specs.Branch.{childrenIn, linked, linkedIn, nearIn, headLink, setChild, removeChild, makeBranch, freeBranch}
-use Rattle.node.specs.Chain.{Kind, leaves, branches, taken, gave}
-use Rattle.node.specs.Create.{noRoot}
+use Rattle.node.specs.Branch.{childrenIn, linked, linkedIn, nearIn, headLink, setChild, removeChild}
+use Rattle.node.specs.Chain.{Kind, leaves, branches, taken}
 use Rattle.node.specs.declared.child.Child.{Child}
 use Rattle.node.specs.declared.child.Child.the-variants.{Leaf as LeafChild, Branch}
-use Rattle.node.specs.declared.child.LeafNo.{LeafNo}
 use Rattle.node.specs.declared.child.BranchNo.{BranchNo}
 use Rattle.node.specs.declared.child.Link.{Link}
 use Rattle.node.specs.declared.child.Linked.{Linked}
@@ -35,10 +32,10 @@ use Rattle.node.proofs.ChildLaws.{within}
 use Rattle.node.proofs.Frames.{OtherBlocks}
 use Rattle.node.proofs.HeaderLaws.{length-head, past-stays, block-in}
 use Rattle.node.proofs.RecordLaws.{leaf-written, value-written, leaf-freed, child-written, removal-written, branch-freed}
-use Rattle.trie.specs.Walk.{steps, step, linkIn, onLinked, onNode, walk, near, first, Within, Lies, Sound}
+use Rattle.trie.specs.Walk.{steps, step, linkIn, onLinked, onNode, walk, near, first, Within, Lies}
 use Rattle.trie.specs.Find.{noStop, findFrom, findIn, Stands}
 use Rattle.trie.specs.declared.find.Exact.{Exact}
-use Rattle.trie.specs.Writes.{withRoot, relinked, Outcome, outcome, onTaken, hung, joined, planted, forked, placed, putBeside, putNear, onClosest, putUnder, insertIn, emptied, shrunk, lifted, liftUnder, removeUnder}
+use Rattle.trie.specs.Writes.{relinked, Outcome, outcome, onTaken, hung, planted, forked, placed, putBeside, putNear, onClosest, putUnder, insertIn, emptied, shrunk, lifted, removeUnder}
 use Rattle.trie.specs.declared.insert.Put.{Put}
 use Rattle.trie.specs.declared.insert.Put.the-variants.{New, Replaced, Height, Full, Wrong}
 use Rattle.trie.specs.declared.descent.Spot.{Spot}

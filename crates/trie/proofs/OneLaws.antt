@@ -1,10 +1,8 @@
 -- The bytes of an accepted store hold one map only: a lookup reads it off. Assumes nothing.
 use Prim.Native.Nat.{ℕ}
-use mathlib.Core.Path.{_≡_, refl, sym, ap, _∙_}
+use mathlib.Core.Path.{_≡_, sym, ap, _∙_}
 use mathlib.Core.List.{List}
 use mathlib.Core.Option.{Option, none, some}
-use native.Mathlib.Omega.{arith}
-use Rattle.model.specs.Map.{lookup}
 use Rattle.model.specs.Picture.{Tree, entries}
 use Rattle.model.proofs.MapLaws.{map-ext}
 use Rattle.model.proofs.TreeLaws.{entries-sorted}
@@ -19,7 +17,7 @@ use Rattle.trie.specs.declared.descent.Spot.the-variants.{Root}
 use Rattle.trie.specs.declared.find.Exact.{Exact}
 use Rattle.trie.specs.declared.find.Exact.the-variants.{Leaf, Absent, Wrong}
 use Rattle.trie.proofs.AcceptedLaws.{few}
-use Rattle.trie.proofs.FoundLaws.{Found, FoundIn, find-means}
+use Rattle.trie.proofs.FoundLaws.{Found, find-means}
 
 -- the value that a lookup found
 abbrev pub valueFound : List ℕ → Exact → Option ℕ

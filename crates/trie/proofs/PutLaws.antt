@@ -1,18 +1,18 @@
 -- Insertion into an accepted store: the answer is the one of the tree that it holds, and the store after it is accepted and holds the tree with the key.
 -- Assumes nothing.
-use Prim.Native.Nat.{ℕ, suc, _+_, _-_, _*_, _≤_, _<_}
+use Prim.Native.Nat.{ℕ, suc, _+_, _≤_, _<_}
 use mathlib.Core.Path.{_≡_, refl, sym, ap, subst, _∙_}
 use mathlib.Core.Logic.{_≢_}
-use mathlib.Core.Bool.{Bool, true, false, cond, not, _&&_}
-use mathlib.Core.List.{List, [], _∷_}
+use mathlib.Core.Bool.{Bool, true, false, not, _&&_}
+use mathlib.Core.List.{List}
 use mathlib.Core.Option.{Option, none, some}
 use native.Mathlib.Omega.{arith}
 use native.Mathlib.Decide.{decLt}
-use lib.Dec.{leb, ltb, eqb}
+use lib.Dec.{leb, eqb}
 use lib.ListN.{length, getD}
-use borrow.Author.Tests.{lt-ltb, le-ltb, lt-leb, le-leb, eq-eqb, ne-eqb}
-use Rattle.model.specs.Key.{keyLimit, IsKey, order, onEqual}
-use Rattle.model.specs.Numbers.{most, used, valueBound}
+use borrow.Author.Tests.{lt-ltb, lt-leb, le-leb, eq-eqb, ne-eqb}
+use Rattle.model.specs.Key.{keyLimit, IsKey}
+use Rattle.model.specs.Numbers.{used, valueBound}
 use Rattle.model.specs.Nibble.{nibble, critical}
 use Rattle.model.specs.Answers.{Answer, DONE, REPLACED, STORE, HEIGHT, FULL, number}
 use Rattle.model.specs.Map.{pick}
@@ -23,15 +23,15 @@ use Rattle.model.proofs.Bounds.{picture-keys}
 use Rattle.model.proofs.Height.{critical-bound}
 use Rattle.model.proofs.Closest.{closest-every}
 use Rattle.model.proofs.NibbleAt.{nibble-slot}
-use Rattle.pictures.specs.Tree.{New, newSlot, insertAt}
+use Rattle.pictures.specs.Tree.{New, newSlot}
 use Rattle.pictures.specs.Calls.{insertAnswer, insertRoot}
-use Rattle.pictures.specs.Stored.{Child, toBranch, root, Site, whole, grows, under, site, Changes}
+use Rattle.pictures.specs.Stored.{Child, root, Site, whole, grows, under, site, Changes}
 use Rattle.pictures.proofs.Tally.{leaves-length}
 use Rattle.pictures.proofs.SiteLaws.{isGrow, grows-passed}
 use Rattle.pictures.proofs.StoredInsert.{site-within}
 use Rattle.node.specs.Child.{itemOf, toLeaf as leafLink, toBranch as branchLink}
 use Rattle.node.specs.Header.{headIn, setHead}
-use Rattle.node.specs.Leaf.{Is, leafIn, setLeaf, setValue}
+use Rattle.node.specs.Leaf.{leafIn, setLeaf, setValue}
 use Rattle.node.specs.Branch.{setChild}
 use Rattle.node.specs.Chain.{Free, leaves as leafKind, branches as branchKind, taken}
 use Rattle.node.specs.declared.header.Header.{Header}
@@ -39,7 +39,7 @@ use Rattle.node.proofs.ChildLaws.{item-fits}
 use Rattle.node.proofs.HeaderLaws.{Fits}
 use Rattle.trie.specs.Accepted.{linkTo, Accepted}
 use Rattle.trie.specs.Walk.{steps, step, walk, first}
-use Rattle.trie.specs.Writes.{withRoot, relinked, joined, Outcome, outcome, insertIn, putUnder, putNear, putBeside, placed, hung, forked}
+use Rattle.trie.specs.Writes.{withRoot, relinked, joined, Outcome, outcome, insertIn, putNear, placed, hung, forked}
 use Rattle.trie.specs.declared.insert.Put.{Put}
 use Rattle.trie.specs.declared.insert.Put.the-variants.{New as Added, Replaced, Height, Full, Wrong}
 use Rattle.trie.specs.declared.descent.Spot.{Spot}
@@ -50,7 +50,7 @@ use Rattle.trie.specs.declared.descent.Walked.the-variants.{At as Reache
 use Rattle.trie.proofs.AcceptedLaws.{no-leaves, right, few, fits, inside, leaf-count, root-link, at-closest, limit-fits, root-fits, leaf-next-fits, branch-fits, branch-next-fits}
 use Rattle.trie.proofs.HeldLaws.{Linkable, hits}
 use Rattle.trie.proofs.SeekLaws.{Ends, seeks}
-use Rattle.trie.proofs.InsertLaws.{Wrote, headAfter, x, differs, near, far, free-leaf, free-branch, branch-room, insert-accepted}
+use Rattle.trie.proofs.InsertLaws.{Wrote, x, differs, near, far, free-leaf, free-branch, branch-room, insert-accepted}
 use Rattle.trie.proofs.AddLaws.{Adds, SiteFits, site-fits, add-grows, add-whole, add-under}
 use Rattle.trie.proofs.FirstLaws.{room, first-free, first-size, first-head, first-accepted, set-accepted, set-head, set-size}
 

@@ -1,36 +1,34 @@
 -- Removal from an accepted store: whoever has written what the cut asks, and given the records back, has an accepted store of the tree without the key.
 -- Assumes nothing.
-use Prim.Native.Nat.{ℕ, suc, _+_, _-_, _*_, _≤_, _<_}
+use Prim.Native.Nat.{ℕ, _+_, _-_, _≤_, _<_}
 use mathlib.Core.Path.{_≡_, refl, sym, ap, subst, _∙_}
 use mathlib.Core.Logic.{_≢_, _⊎_, inl, inr}
-use mathlib.Core.Bool.{Bool, true, false}
+use mathlib.Core.Bool.{true}
 use mathlib.Core.List.{List, [], _∷_}
 use mathlib.Core.Option.{Option, none, some}
 use native.Mathlib.Omega.{arith}
-use native.Mathlib.Decide.{ℕ-discrete}
 use lib.ListN.{length, getD}
-use Rattle.model.specs.Numbers.{used, most}
-use Rattle.model.specs.Picture.{Tree, Pictured, Picture, closest}
+use Rattle.model.specs.Numbers.{used}
+use Rattle.model.specs.Picture.{Tree, closest}
 use Rattle.model.proofs.Closest.{Some, closest-some}
 use Rattle.pictures.specs.Tree.{removeT}
 use Rattle.pictures.specs.Records.{at, leafTimes, branchTimes}
-use Rattle.pictures.specs.Stored.{Child, root, Row, Holds, Cut, gone, lifts, shrinks, relinks, cut, Touches, Unlinked, rootLeft, rootOf}
+use Rattle.pictures.specs.Stored.{Child, root, Cut, gone, lifts, shrinks, relinks, cut, Touches, Unlinked, rootLeft, rootOf}
 use Rattle.pictures.specs.Chain.{Accounted}
 use Rattle.pictures.proofs.CallLaws.{remove-pictured}
 use Rattle.pictures.proofs.StoredSet.{number-within}
-use Rattle.pictures.proofs.StoredRemove.{AskedCut, StoredCut, remove-stored, cut-within}
+use Rattle.pictures.proofs.StoredRemove.{StoredCut, remove-stored, cut-within}
 use Rattle.pictures.proofs.RemoveTally.{freed, tallyLeft, remove-tally}
 use Rattle.pictures.proofs.ChainLaws.{account-give, account-keep}
 use Rattle.sparse_array.specs.Array.{entries}
 use Rattle.node.specs.Layout.{last}
-use Rattle.node.specs.Child.{itemOf}
 use Rattle.node.specs.Header.{markIn, header, headIn}
 use Rattle.node.specs.Leaf.{Leaf, Is, leafIn}
 use Rattle.node.specs.Branch.{arrayIn, childrenIn}
 use Rattle.node.specs.Chain.{Free, leaves as leafKind, branches as branchKind}
 use Rattle.node.specs.Create.{noRoot}
 use Rattle.node.specs.declared.header.Header.{Header}
-use Rattle.trie.specs.Accepted.{linkTo, memoryOf, leafUses, branchUses, Rooted, Accepted}
+use Rattle.trie.specs.Accepted.{memoryOf, leafUses, branchUses, Rooted, Accepted}
 use Rattle.trie.proofs.AcceptedLaws.{right, few-last, inside}
 use Rattle.trie.proofs.RowCodes.{itemTo}
 use Rattle.trie.proofs.InsertLaws.{right-again, leaf-free-same, branch-free-same, branch-next-same, used-branch}

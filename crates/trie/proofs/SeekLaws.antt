@@ -1,5 +1,5 @@
 -- The descent to where an insertion writes, over a held tree: it ends where the tree's own insertion does. Assumes nothing.
-use Prim.Native.Nat.{ℕ, zero, suc, _+_, _-_, _*_, _≤_, _<_, Ordering}
+use Prim.Native.Nat.{ℕ, zero, suc, _+_, _*_, _≤_, _<_, Ordering}
 use mathlib.Core.Path.{_≡_, refl, sym, ap, subst, _∙_}
 use mathlib.Core.List.{List}
 use native.Mathlib.Omega.{arith}
@@ -7,16 +7,15 @@ use Rattle.model.specs.Key.{keyLimit}
 use Rattle.model.specs.Numbers.{most}
 use Rattle.model.specs.Nibble.{nibble}
 use Rattle.model.specs.Map.{choose}
-use Rattle.model.specs.Picture.{Tree, leaf, branch, Kids, end, kid, Every, Everys, StartsAt, Picture}
+use Rattle.model.specs.Picture.{Tree, branch, Kids, Every, Everys, StartsAt, Picture}
 use Rattle.model.proofs.Compare.{Said, lower, same, higher, said}
 use Rattle.model.proofs.Bounds.{place-bound}
 use Rattle.model.proofs.Closest.{Some, Somes, Far}
 use Rattle.pictures.specs.Tree.{New, newSlot}
-use Rattle.pictures.specs.Stored.{Child, toLeaf, toBranch, root, row, Holds, At, Site, whole, grows, under, below, site, siteK}
+use Rattle.pictures.specs.Stored.{toLeaf, toBranch, root, Holds, At, Site, whole, grows, under, below, site, siteK}
 use Rattle.pictures.proofs.Children.{tree-ind, every-at, holds-at, picture-at, site-at}
-use Rattle.pictures.proofs.Frame.{child-of, at-self}
+use Rattle.pictures.proofs.Frame.{child-of}
 use Rattle.pictures.proofs.Insert.{Near, near-slot, slot-free}
-use Rattle.pictures.proofs.SiteLaws.{site-whole}
 use Rattle.node.specs.Branch.{childrenIn, linkedIn}
 use Rattle.node.specs.declared.child.Linked.the-variants.{To, Absent}
 use Rattle.trie.specs.Accepted.{linkTo, memoryOf}
@@ -26,7 +25,7 @@ use Rattle.trie.specs.declared.descent.Spot.the-variants.{Under}
 use Rattle.trie.specs.declared.descent.Walked.{Walked}
 use Rattle.trie.specs.declared.descent.Walked.the-variants.{At as Reached, Missing}
 use Rattle.trie.proofs.WalkLaws.{walk-leaf, walk-stop, walk-step}
-use Rattle.trie.proofs.HeldLaws.{Inside, inside-at, own, link-at, link-lacks}
+use Rattle.trie.proofs.HeldLaws.{Inside, inside-at, link-at, link-lacks}
 
 -- what a descent that began at the spot `at` ends at, by where the insertion writes
 abbrev pub Ends : New → Spot → Site → Walked → Type 0

@@ -1,19 +1,19 @@
 -- What the writers of a removal write is what the cut asks, and removal from an accepted store: the store after it is accepted and holds the tree without the
 -- key. Assumes nothing.
-use Prim.Native.Nat.{ℕ, suc, _+_, _-_, _*_, _≤_, _<_}
+use Prim.Native.Nat.{ℕ, _-_, _≤_, _<_}
 use mathlib.Core.Path.{_≡_, refl, sym, ap, subst, _∙_}
-use mathlib.Core.Logic.{_≢_, _⊎_, inl, inr}
-use mathlib.Core.Bool.{Bool, true, false}
-use mathlib.Core.List.{List, [], _∷_}
-use mathlib.Core.Option.{Option, none, some}
+use mathlib.Core.Logic.{_≢_, inl, inr}
+use mathlib.Core.Bool.{Bool, true}
+use mathlib.Core.List.{List}
+use mathlib.Core.Option.{some}
 use native.Mathlib.Omega.{arith}
 use lib.Dec.{eqb}
 use lib.ListN.{length, getD}
 use borrow.Author.Tests.{eq-eqb, ne-eqb}
 use Rattle.model.specs.Numbers.{used, most, headerSize}
 use Rattle.model.specs.Picture.{Tree, closest}
-use Rattle.pictures.specs.Tree.{getT, removeT}
-use Rattle.pictures.specs.Stored.{Child, root, Cut, gone, lifts, shrinks, relinks, cut, Touches, rootLeft}
+use Rattle.pictures.specs.Tree.{removeT}
+use Rattle.pictures.specs.Stored.{Child, root, Cut, gone, lifts, shrinks, relinks, cut, Touches}
 use Rattle.pictures.proofs.StoredRemove.{cut-within}
 use Rattle.sparse_array.specs.Entries.{Entry, insert, erase, Rising}
 use Rattle.fields.specs.Part.{splice}
@@ -21,8 +21,8 @@ use Rattle.fields.specs.Number.{littleBytes}
 use Rattle.sparse_array.specs.Array.{entries, withSlot, withoutSlot, cleared}
 use Rattle.sparse_array.proofs.ArrayLaws.{rising}
 use Rattle.node.specs.Layout.{start, freeSize, Room}
-use Rattle.node.specs.Header.{header, headIn, markIn, setHead}
-use Rattle.node.specs.Leaf.{Is, leafIn, freeLeaf}
+use Rattle.node.specs.Header.{header, headIn, setHead}
+use Rattle.node.specs.Leaf.{leafIn, freeLeaf}
 use Rattle.node.specs.Branch.{arrayIn, childrenIn, setChild, removeChild, freeBranch}
 use Rattle.node.specs.Chain.{leaves as leafKind, branches as branchKind, gave}
 use Rattle.node.specs.Create.{noRoot}
@@ -38,9 +38,9 @@ use Rattle.trie.specs.declared.descent.Step.{Step}
 use Rattle.trie.proofs.AcceptedLaws.{right, few, fits, inside, limit-fits, root-fits, leaf-fits, branch-fits}
 use Rattle.trie.proofs.HeldLaws.{Linkable}
 use Rattle.trie.proofs.RowCodes.{itemTo, codes-set, codes-drop, insert-some, erase-length}
-use Rattle.trie.proofs.FoundLaws.{Pair, Stood}
+use Rattle.trie.proofs.FoundLaws.{Stood}
 use Rattle.trie.proofs.InsertLaws.{branch-free-same, branch-next-same}
-use Rattle.trie.proofs.RemoveLaws.{Took, headLess, rootItem, a-below, remove-accepted}
+use Rattle.trie.proofs.RemoveLaws.{Took, headLess, a-below, remove-accepted}
 
 -- a store, the leaf that goes, and the numbers that its record and a branch's are given to the chain with
 pub record Gives (st : List ℕ) (cap a : ℕ) : Type 0 where

@@ -4,7 +4,7 @@
 use Prim.Native.Nat.{ℕ, zero, suc, _+_, _≤_, _<_, Ordering}
 use mathlib.Core.Path.{_≡_, refl, sym, ap, subst, _∙_}
 use mathlib.Core.Bool.{Bool, true, false, cond, _&&_}
-use mathlib.Core.List.{List, [], _∷_}
+use mathlib.Core.List.{List}
 use mathlib.Core.Option.{Option, none, some}
 use native.Mathlib.Omega.{arith}
 use lib.Dec.{eqb, leb, ltb}
@@ -12,7 +12,7 @@ use lib.ListN.{length, take, getD}
 use lib.Seq.{getD-take}
 use borrow.Author.Tests.{ltb-true}
 use Rattle.model.specs.Key.{Bytes, order, onEqual}
-use Rattle.model.specs.Numbers.{headerSize, blockSize, capacityOf}
+use Rattle.model.specs.Numbers.{blockSize, capacityOf}
 use Rattle.model.specs.Nibble.{nibble, critical}
 use Rattle.model.proofs.KeyLaws.{Ordered, before, equal, after, ordered}
 use Rattle.fields.specs.Part.{part, splice}
@@ -31,7 +31,6 @@ use Rattle.node.specs.Chain.{Kind, leaves, branches, taken}
 use Rattle.node.specs.Create.{nextAfter, freedBelow, newHead, created}
 use Rattle.node.specs.declared.child.Child.{Child}
 use Rattle.node.specs.declared.child.Child.the-variants.{Leaf as LeafChild, Branch}
-use Rattle.node.specs.declared.child.LeafNo.{LeafNo}
 use Rattle.node.specs.declared.child.BranchNo.{BranchNo}
 use Rattle.node.specs.declared.child.Link.{Link}
 use Rattle.node.specs.declared.child.Linked.{Linked}
@@ -40,7 +39,7 @@ use Rattle.node.specs.declared.header.Header.{Header}
 use Rattle.node.proofs.ChildLaws.{within}
 use Rattle.trie.specs.Walk.{steps, step, linkIn, onLinked, onNode, walk, near, first, Within, Lies}
 use Rattle.trie.specs.Find.{noStop, onWalked, findFrom, findIn}
-use Rattle.trie.specs.Writes.{relinked, Outcome, outcome, onTaken, hung, joined, planted, forked, placed, putBeside, putNear, onClosest, putUnder, insertIn, emptied, shrunk, lifted, liftUnder, removeUnder}
+use Rattle.trie.specs.Writes.{relinked, Outcome, outcome, onTaken, hung, joined, planted, forked, placed, putBeside, putNear, onClosest, putUnder, insertIn, shrunk, lifted, removeUnder}
 use Rattle.trie.specs.declared.descent.Spot.{Spot}
 use Rattle.trie.specs.declared.descent.Spot.the-variants.{Root, Under}
 use Rattle.trie.specs.declared.descent.Step.{Step}

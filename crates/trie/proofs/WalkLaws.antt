@@ -25,7 +25,7 @@ use Rattle.node.specs.declared.child.Child.the-variants.{Leaf as LeafChild, Bra
 use Rattle.node.specs.declared.child.Link.{Link}
 use Rattle.node.specs.declared.child.Linked.{Linked}
 use Rattle.node.specs.declared.child.Linked.the-variants.{To, Absent, Wrong as WrongLink}
-use Rattle.trie.specs.Walk.{step, onLinked, onNode, walk, near}
+use Rattle.trie.specs.Walk.{step, onLinked, walk, near}
 use Rattle.trie.specs.declared.descent.Spot.the-variants.{Under}
 use Rattle.trie.specs.declared.descent.Step.{Step}
 use Rattle.trie.specs.declared.descent.Walked.{Walked}

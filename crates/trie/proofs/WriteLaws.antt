@@ -7,14 +7,14 @@ use mathlib.Core.List.{List}
 use mathlib.Core.Option.{Option, none, some}
 use native.Mathlib.Decide.{decLt}
 use native.Mathlib.Omega.{arith}
-use lib.Dec.{leb, ltb, eqb}
+use lib.Dec.{ltb}
 use lib.ListN.{length}
 use mir.Syntax.{w8, w64}
 use mir.Val.{Fits}
 use borrow.Author.Tests.{lt-ltb, le-ltb, le-leb, lt-leb, eq-eqb, ne-eqb, ltb-true}
-use Rattle.model.specs.Key.{keyLimit, order, onEqual}
-use Rattle.model.specs.Numbers.{most, blockSize, headerSize}
-use Rattle.model.specs.Nibble.{nibble, critical, slotCount}
+use Rattle.model.specs.Key.{keyLimit}
+use Rattle.model.specs.Numbers.{most}
+use Rattle.model.specs.Nibble.{nibble, critical}
 use Rattle.model.proofs.KeyLaws.{key-same, key-other, critical-differs}
 use Rattle.model.proofs.NibbleAt.{nibble-past}
 use Rattle.fields.specs.Common.{Says}
@@ -24,7 +24,7 @@ use Rattle.node.specs.Child.{toLeaf, toBranch, numberIn, itemOf, linkOf}
 use Rattle.node.specs.Header.{setHead}
 use Rattle.node.specs.Leaf.{leafIn, setLeaf, setValue}
 use Rattle.node.specs.Branch.{childrenIn, headLink, setChild, removeChild, makeBranch}
-use Rattle.node.specs.Chain.{Kind, leaves, branches, taken, gave, gaveLeaf, gaveBranch, asLeaf, asBranch, takenLeaf, takenBranch}
+use Rattle.node.specs.Chain.{Kind, leaves, branches, taken, gaveLeaf, gaveBranch, asLeaf, asBranch, takenLeaf, takenBranch}
 use Rattle.node.specs.Create.{noRoot}
 use Rattle.node.specs.declared.chain.TakenLeaf.{TakenLeaf}
 use Rattle.node.specs.declared.chain.TakenLeaf.the-variants.{Record as LeafRecord, Nothing as LeafNothing}
@@ -33,7 +33,6 @@ use Rattle.node.specs.declared.chain.TakenBranch.the-variants.{Record as Branch
 use Rattle.node.specs.declared.child.LeafNo.{LeafNo}
 use Rattle.node.specs.declared.child.BranchNo.{BranchNo}
 use Rattle.node.specs.declared.child.Child.{Child}
-use Rattle.node.specs.declared.child.Child.the-variants.{Leaf as LeafChild, Branch}
 use Rattle.node.specs.declared.child.Link.{Link}
 use Rattle.node.specs.declared.child.Linked.{Linked}
 use Rattle.node.specs.declared.child.Linked.the-variants.{To}
@@ -41,7 +40,7 @@ use Rattle.node.specs.declared.header.Header.{Header}
 use Rattle.node.proofs.HeaderLaws.{block-in}
 use Rattle.trie.proofs.WalkLaws.{NoLink, no-link, linked-below}
 use Rattle.trie.specs.Walk.{steps, linkIn, walk, near, first, Within, Lies, Sound}
-use Rattle.trie.specs.Writes.{withRoot, relinked, Outcome, outcome, Did, onTaken, hung, joined, planted, forked, placed, putBeside, putNear, onClosest, putUnder, insertIn, emptied, shrunk, lifted, liftUnder, removeUnder}
+use Rattle.trie.specs.Writes.{withRoot, relinked, Outcome, outcome, hung, joined, planted, forked, placed, putBeside, putNear, putUnder, insertIn, lifted, liftUnder, removeUnder}
 use Rattle.trie.specs.declared.descent.Spot.{Spot}
 use Rattle.trie.specs.declared.descent.Spot.the-variants.{Root, Under}
 use Rattle.trie.specs.declared.descent.Step.{Step}
@@ -211,9 +210,6 @@ module _ (st : List ℕ) (h : Header) (t : TakenLeaf) (is : t ≡ takenLeaf st h
 pub planted-bytes : (st : List ℕ) (h : Header) (k : List ℕ) (v n b : ℕ) (s : Step) (p r x : ℕ) (s₁ s₂ s₃ : List ℕ) → x ≡ nibble k p → s₁ ≡ setLeaf st n k v → s₂ ≡ joined s₁ b x n r (linkIn s)
     → s₃ ≡ relinked s₂ h (s .at) (toBranch b p) → s₃ ≡ planted st h k v n b s p r
 planted-bytes st h k v n b s p r x s₁ s₂ s₃ ex e₁ e₂ e₃ = e₃ ∙ rw (e₂, e₁, ex)
-
-pub plant-block : (st s : List ℕ) (cap n : ℕ) → start cap ≤ length st → n < cap → length s ≡ length st → Room s n
-plant-block st s cap n fits h l = block-in s cap n (omega arith) h
 
 -- ---- join
 

@@ -4,7 +4,7 @@ use mathlib.Core.Bool.{cond}
 use mathlib.Core.List.{List}
 use lib.Dec.{eqb}
 use Rattle.model.specs.Key.{order, onEqual}
-use Rattle.node.specs.Child.{numberIn, linkOf}
+use Rattle.node.specs.Child.{linkOf}
 use Rattle.node.specs.Leaf.{leafIn}
 use Rattle.node.specs.declared.child.Child.{Child}
 use Rattle.node.specs.declared.child.Link.{Link}

@@ -16,8 +16,6 @@ use Rattle.node.specs.Leaf.{leafIn, setLeaf, setValue}
 use Rattle.node.specs.Branch.{childrenIn, headLink, setChild, removeChild, makeBranch}
 use Rattle.node.specs.Chain.{leaves, branches, taken, gave}
 use Rattle.node.specs.Create.{noRoot}
-use Rattle.node.specs.declared.child.LeafNo.{LeafNo}
-use Rattle.node.specs.declared.child.BranchNo.{BranchNo}
 use Rattle.node.specs.declared.child.Link.{Link}
 use Rattle.node.specs.declared.header.Header.{Header}
 use Rattle.trie.specs.Walk.{steps, linkIn, onLinked, walk, near, first}

@@ -8,7 +8,7 @@ use node::header::put_head;
 ghost use mathlib.Core.Path.{_≡_};
 ghost use Prim.Native.Nat.{_≤_, _<_};
 ghost use lib.ListN.{length};
-ghost use Rattle.model.specs.Numbers.{headerSize, most};
+ghost use Rattle.model.specs.Numbers.{most};
 ghost use Rattle.node.specs.Layout.{start};
 ghost use Rattle.node.specs.Child.{numberIn};
 ghost use Rattle.trie.specs.Walk.{Within};

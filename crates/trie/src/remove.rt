@@ -13,16 +13,12 @@ use node::child::Linked;
 use node::header::Header;
 use node::header::put_head;
 use node::layout::NO_ROOT;
-ghost use mathlib.Core.Path.{_≡_};
-ghost use mathlib.Core.Bool.{cond, true, false};
 ghost use Prim.Native.Nat.{_≤_, _<_};
 ghost use lib.ListN.{length};
 ghost use Rattle.model.specs.Numbers.{most};
-ghost use Rattle.sparse_array.specs.Entries.{erase};
 ghost use Rattle.node.specs.Layout.{start};
-ghost use Rattle.node.specs.Branch.{childrenIn, headLink};
 ghost use Rattle.trie.specs.Walk.{Within};
-ghost use Rattle.trie.specs.Writes.{Did, outcome, lifted, removeUnder, liftUnder};
+ghost use Rattle.trie.specs.Writes.{Did, removeUnder, liftUnder};
 
 // The leaf and its branch of two children go, and the other child takes the branch's place.
 fn lift(store: &mut [u8], h: Header, leaf: LeafNo, branch: BranchNo, slot: u8, above: Spot) -> bool
