@@ -2,3 +2,4 @@ pub mod EntryLaws
 pub mod SheetLaws
 pub mod WalkLaws
 pub mod AfterLaws
+pub mod PageContracts
