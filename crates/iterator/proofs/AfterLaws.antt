@@ -23,7 +23,7 @@ use Rattle.iterator.specs.declared.walk.Progress.{Progress}
 use Rattle.iterator.proofs.SheetLaws.{puts-append, puts-stopped, puts-one, puts-wrong, wrong-is}
 
 module _ (st : List ℕ) (cap : ℕ) (k : List ℕ) (c : ℕ) (up : Bool) (f : ℕ) (l : Link) where
-  after-leaf : (n : LeafNo) → l .child ≡ LeafChild n → after st cap k c up f l ≡ cond up (some (entryIn st (n .0)) ∷ []) []
+  pub after-leaf : (n : LeafNo) → l .child ≡ LeafChild n → after st cap k c up f l ≡ cond up (some (entryIn st (n .0)) ∷ []) []
   unfolding after
   after-leaf n e = go f
     where
@@ -40,7 +40,7 @@ module _ (st : List ℕ) (cap : ℕ) (k : List ℕ) (c : ℕ) (up : Bool) (f : �
         go zero q = rw e
         go (suc y) q = absurd (omega arith)
 
-    after-past : (f ≡ 0 → ⊥) → c < l .position → after st cap k c up f l ≡ cond up (below st cap f 0 l) []
+    pub after-past : (f ≡ 0 → ⊥) → c < l .position → after st cap k c up f l ≡ cond up (below st cap f 0 l) []
     unfolding after
     after-past nf h = go f nf
       where
@@ -48,7 +48,7 @@ module _ (st : List ℕ) (cap : ℕ) (k : List ℕ) (c : ℕ) (up : Bool) (f : �
         go zero q = absurd (q refl)
         go (suc y) q = rw (e, lt-leb (l .position) c h)
 
-    after-in : (f ≡ 0 → ⊥) → l .position ≤ c
+    pub after-in : (f ≡ 0 → ⊥) → l .position ≤ c
         → after st cap k c up f l
         ≡ onLinked (λ m. after st cap k c up (f - 1) m ++ below st cap f (placeOf (nibble k (l .position)) (childrenIn st (b .0)) + 1) l)
         (below st cap f (placeOf (nibble k (l .position)) (childrenIn st (b .0))) l) nothingRight

@@ -3,3 +3,4 @@ pub mod SheetLaws
 pub mod WalkLaws
 pub mod AfterLaws
 pub mod PageContracts
+pub mod HeldLaws

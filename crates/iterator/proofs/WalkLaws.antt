@@ -48,7 +48,7 @@ kids-from cap g es i x e = let (s, d) = drop-nth i es x e in rw d
 -- ---- below a link
 
 module _ (st : List ℕ) (cap : ℕ) (f i : ℕ) (l : Link) where
-  below-leaf : (n : LeafNo) → l .child ≡ LeafChild n → below st cap f i l ≡ some (entryIn st (n .0)) ∷ []
+  pub below-leaf : (n : LeafNo) → l .child ≡ LeafChild n → below st cap f i l ≡ some (entryIn st (n .0)) ∷ []
   unfolding below
   below-leaf n e = go f
     where
@@ -73,7 +73,7 @@ module _ (st : List ℕ) (cap : ℕ) (f i : ℕ) (l : Link) where
         go zero = rw e
         go (suc y) = rw (e, eq-eqb (length (childrenIn st (b .0))) 0 z)
 
-    below-kids : (f ≡ 0 → ⊥) → (length (childrenIn st (b .0)) ≡ 0 → ⊥) → below st cap f i l ≡ kids cap (λ m. below st cap (f - 1) 0 m) (drop i (childrenIn st (b .0)))
+    pub below-kids : (f ≡ 0 → ⊥) → (length (childrenIn st (b .0)) ≡ 0 → ⊥) → below st cap f i l ≡ kids cap (λ m. below st cap (f - 1) 0 m) (drop i (childrenIn st (b .0)))
     unfolding below
     below-kids nf nc = go f nf
       where
