@@ -4,3 +4,6 @@ pub mod WalkLaws
 pub mod AfterLaws
 pub mod PageContracts
 pub mod HeldLaws
+pub mod SeekLaws
+pub mod TakeLaws
+pub mod PageLaws

@@ -37,7 +37,7 @@ module _ (q : List ℕ) where
       let one : FromSlot p (h .0) 0 k = closest-every (FromSlot p (h .0) 0) [] (branch n p ks) h all in
       record { picture = h; alike = everys-map (λ x f. starts-same q x k (agree-less l (agree-trans (agree-sym (f .agree)) (one .agree)))) ks all }
 
-  abbrev Reaches : Option Tree → Type 0
+  abbrev pub Reaches : Option Tree → Type 0
   Reaches none = Unit {0}
   Reaches (some u) = Reached q u
 
