@@ -7,3 +7,5 @@ pub mod HeldLaws
 pub mod SeekLaws
 pub mod TakeLaws
 pub mod PageLaws
+pub mod DecentLaws
+pub mod UnreadLaws
