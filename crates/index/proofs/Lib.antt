@@ -9,3 +9,4 @@ pub mod HeadLaws
 pub mod WayLaws
 pub mod UnreadLaws
 pub mod Theorems
+pub mod PageLaws

@@ -1,3 +1,4 @@
 pub mod Layout
 pub mod Replies
 pub mod Calls
+pub mod Pages

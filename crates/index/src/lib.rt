@@ -6,5 +6,6 @@ pub mod get;
 pub mod insert;
 pub mod is_empty;
 pub mod overwrite;
+pub mod pages;
 pub mod remove;
 pub mod set_limit;

@@ -354,7 +354,7 @@ page-paged q mode from n out m g b = go (tooLong q || fromTooLong from) (badCoun
             );
         refused = λ l. absurd (omega arith);
       };
-      kind = record { among = refl; value = λ l. refl; count = λ l. absurd (omega arith); end = λ l. absurd (omega arith) };
+      kind = record { among = refl; value = λ l. absurd (omega arith); count = λ l. absurd (omega arith); end = λ l. absurd (omega arith) };
       bytes =
           bytes-append (entriesBytes given) (drop (length (entriesBytes given)) out)
           (entries-bytes given (page-keys a m (g .keys)) (page-values a m (g .values))) (bytes-drop (length (entriesBytes given)) out b);

@@ -62,7 +62,9 @@ pub record Lawful (L : Layout) : Type 0 where
 -- A call's answer by document 01's number, with the value, the count and the end mark beside it.
 pub record Reply : Type 0 where
   pub answer : ℕ
+  -- of get the value that the key has, of is_empty 1 or 0, of a page the bytes that it has written
   pub value : ℕ
+  -- of a page the entries that it gives
   pub count : ℕ
   pub end : Bool
 

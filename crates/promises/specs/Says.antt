@@ -131,10 +131,11 @@ pub record PageSays : Type 0 where
   -- the bytes at the start of the output; "output bytes past the last stay"
   pub bytes : List ℕ
 
--- A page that is given: as many entries as it counts.
+-- A page that is given: as many entries as it counts, and as many bytes as stand beside the answer.
 abbrev pub pageGiven : Page → PageSays
 pageGiven p =
-    record { reply = record { answer = number DONE; value = 0; count = length (p .entries); end = p .end }; bytes = entriesBytes (p .entries) }
+    let bytes = entriesBytes (p .entries) in
+    record { reply = record { answer = number DONE; value = length bytes; count = length (p .entries); end = p .end }; bytes = bytes }
 
 -- first_page and next_page
 abbrev pub pageSays : Asked → Meaning → PageSays
