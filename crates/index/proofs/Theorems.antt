@@ -7,13 +7,17 @@ use mathlib.Core.List.{List}
 use lib.ListN.{length, take}
 use Rattle.model.specs.Numbers.{headerSize, leastSize, capacityOf, used}
 use Rattle.model.specs.Answers.{STORE}
+use Rattle.model.specs.Page.{Mode, start}
 use Rattle.promises.specs.Meaning.{Meaning, Means, Reply, alone}
 use Rattle.promises.specs.Says.{getSays, isEmptySays, setLimitSays, insertSays, overwriteSays, removeSays}
-use Rattle.promises.specs.Promises.{isEmptyKinds, setLimitKinds, insertKinds, getKinds, overwriteKinds, removeKinds, Create, Check, IsEmpty, SetLimit, Insert, Get, Overwrite, Remove}
-use Rattle.promises.specs.Determined.{SameStore, SameWrite}
+use Rattle.promises.specs.Promises.{isEmptyKinds, setLimitKinds, insertKinds, getKinds, overwriteKinds, removeKinds, Create, Check, IsEmpty, SetLimit, Insert, Get, Overwrite, Remove, FirstPage, NextPage}
+use Rattle.promises.specs.Determined.{SameStore, SameWrite, SamePage}
 use Rattle.promises.specs.History.{Counted}
+use Rattle.promises.specs.Session.{Step, Session, momentsOf, pagesOf, SomeBefore}
+use Rattle.promises.specs.Moments.{UntilEnd, Listed}
 use Rattle.promises.proofs.History.{counted as counted-lawful}
 use Rattle.promises.proofs.Determined as determined
+use Rattle.promises.proofs.Session.{session-listed, session-some}
 use Rattle.index.specs.Layout.{layout}
 use Rattle.index.proofs.CallLaws.{lawful}
 
@@ -60,3 +64,24 @@ other-capacity = determined.other-capacity-checked layout lawful
 
 pub check-unread : (st su : List ℕ) (r s : Reply) → used st ≡ used su → take (used st) st ≡ take (used su) su → Check layout st r → Check layout su s → r ≡ s
 check-unread = determined.check-unread layout lawful
+
+-- ---- demand 3: a listing under one prefix and mode, fetched page by page from the start until a page says end, with any calls between pages
+
+-- A session is what its user does and sees: the first page, then the next one after the last key that the bytes of the page before show, each on an accepted store
+-- of its own moment. Its keys strictly rise; each entry has its value at its page's moment; each matching key that is stored at every page's moment is given
+-- exactly once; what is given matched and was stored; and with no change in between the joined pages are the full listing.
+pub listed : (mode : Mode) (q : List ℕ) (ss : List Step) → Session layout mode q start ss → UntilEnd (pagesOf ss) → Listed mode q (momentsOf ss) (pagesOf ss)
+listed mode q = session-listed layout lawful mode q
+
+-- No page before the end is empty.
+pub some-before : (mode : Mode) (q : List ℕ) (ss : List Step) → Session layout mode q start ss → UntilEnd (pagesOf ss) → SomeBefore (pagesOf ss)
+some-before mode q = session-some layout lawful mode q
+
+-- any two outcomes of a page are equal: the answer and every output byte
+pub first-page-one : (q : List ℕ) (mode : Mode) (n : ℕ) (st out ou ov : List ℕ) (m : Meaning) (r s : Reply) → Means layout st m → FirstPage layout q mode n st out ou r → FirstPage layout q mode n st out ov s
+    → SamePage ou ov r s
+first-page-one q mode n st out ou ov m r s = determined.pages-one layout lawful _ st out ou ov m r s
+
+pub next-page-one : (q : List ℕ) (mode : Mode) (a : List ℕ) (n : ℕ) (st out ou ov : List ℕ) (m : Meaning) (r s : Reply) → Means layout st m → NextPage layout q mode a n st out ou r
+    → NextPage layout q mode a n st out ov s → SamePage ou ov r s
+next-page-one q mode a n st out ou ov m r s = determined.pages-one layout lawful _ st out ou ov m r s

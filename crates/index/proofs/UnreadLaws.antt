@@ -12,6 +12,8 @@ use borrow.Author.Tests.{lt-ltb, le-ltb}
 use Rattle.model.specs.Key.{Bytes}
 use Rattle.model.specs.Numbers.{leastSize, used}
 use Rattle.model.specs.Picture.{tooLong}
+use Rattle.model.specs.Page.{From, afterKey, start as fromStart}
+use Rattle.pictures.specs.After.{bound, boundToo}
 use Rattle.node.specs.Layout.{start}
 use Rattle.node.specs.Header.{headOf, setHead}
 use Rattle.node.specs.Leaf.{Leaf as LeafRecord, setValue}
@@ -29,6 +31,11 @@ use Rattle.trie.proofs.UnreadLaws.{Alike, Agrees, agrees, leaf-alike, head-alik
 use Rattle.index.specs.Layout.{withLimit}
 use Rattle.index.specs.Replies.{insertedOf}
 use Rattle.index.specs.Calls.{onHead, createCall, emptyCall, limitCall, insertedIn, insertCall, gotOf, gotIn, getCall, overwritten, overwrittenIn, overwriteCall, removed, removedIn, removeCall}
+use Rattle.iterator.specs.declared.page.Listed.{Listed}
+use Rattle.iterator.proofs.UnreadLaws.{page-alike}
+use Rattle.index.specs.Pages.{modeOf, countWrong, namedPage, pageCall}
+use Rattle.index.specs.declared.pages.Mode.{Mode}
+use Rattle.index.specs.declared.pages.Paged.{Paged}
 use Rattle.index.specs.declared.changed.Changed.{Changed}
 use Rattle.index.specs.declared.get.Got.{Got}
 use Rattle.index.specs.declared.insert.Inserted.{Inserted}
@@ -150,3 +157,10 @@ module _ (st su : List ℕ) (s : Same st su) where
           made long =
               let c = created-alike limit (capacity-same st su (s .capacity) (s .bytes)) (alike st su (s .capacity) (s .bytes) long) in
               c .same ∙ ap (λ (n : ℕ). take n (created limit su)) (s .capacity)
+
+  -- a page: the answer and every output byte
+  pub page-unread : (long : Bool) (q : List ℕ) (mode : Mode) (from : From) (n : ℕ) (out : List ℕ) → Bytes q → Bytes (bound (modeOf mode) q from) → pageCall long q mode from n st out ≡ pageCall long q mode from n su out
+  page-unread long q mode from n out qs bs =
+      by-head st su s (λ a b. a ≡ b) _ _ _ _ refl
+      (λ h r a. ap (λ (o : Outcome Listed). cond long (outcome Paged.Key out) (cond (countWrong n (length out)) (outcome Paged.Count out) (namedPage o)))
+      (sym (page-alike a q (bound (modeOf mode) q from) qs bs (boundToo (modeOf mode) from) n out h refl)))
