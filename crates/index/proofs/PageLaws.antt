@@ -15,7 +15,7 @@ use Rattle.model.specs.Nibble.{nibble, critical}
 use Rattle.model.specs.Answers.{STORE}
 use Rattle.model.specs.Numbers.{pageLimit, entryLimit}
 use Rattle.model.specs.Entry.{entriesBytes}
-use Rattle.model.specs.Page.{plain, inclusive, From, start, afterKey, under, above}
+use Rattle.model.specs.Page.{plain, inclusive, From, start, afterKey, follows, under, above}
 use Rattle.model.specs.Picture.{Tree, entries, tooLong}
 use Rattle.model.proofs.Bounds.{entries-keys}
 use Rattle.model.proofs.Compare.{Said, lower, same, higher, said}
@@ -37,8 +37,8 @@ use Rattle.iterator.specs.declared.page.Listed.{Listed}
 use Rattle.iterator.proofs.PageLaws.{paged, page-means}
 use Rattle.iterator.proofs.DecentLaws.{Decent, page-decent}
 use Rattle.index.specs.Layout.{layout}
-use Rattle.index.specs.Replies.{pageReply}
-use Rattle.index.specs.Pages.{modeOf, isInclusive, isBelow, countWrong, pagedOf, namedPage, pageIn, nextIn, pageCall, firstCall, nextCall}
+use Rattle.index.specs.Replies.{modeOf, pageReply}
+use Rattle.index.specs.Pages.{isInclusive, countWrong, pagedOf, namedPage, pageIn, nextIn, pageCall, firstCall, nextCall}
 use Rattle.index.specs.declared.pages.Mode.{Mode}
 use Rattle.index.specs.declared.pages.Paged.{Paged}
 use Rattle.index.proofs.WayLaws.{too-long, not-too-long}
@@ -69,7 +69,7 @@ module _ (n room : ℕ) where
 pub named-page : (x : Listed) (e b : ℕ) (d : Bool) → x ≡ Listed.Page e b d → Paged.Done e b d ≡ pagedOf x
 named-page x e b d q = ap pagedOf (sym q)
 
-pub below-is : (a b : List ℕ) (c x y : ℕ) → c ≡ critical a b → x ≡ nibble a c → y ≡ nibble b c → ltb x y ≡ isBelow a b
+pub below-is : (a b : List ℕ) (c x y : ℕ) → c ≡ critical a b → x ≡ nibble a c → y ≡ nibble b c → ltb x y ≡ follows (afterKey a) b
 below-is a b c x y e ex ey =
     let known : order a b ≡ compare x y = rw (ex, ey, e) (critical-order a b) in
     go (said x y) ∙ ap (λ (o : Ordering). choose o true false false) (sym known)
@@ -91,7 +91,7 @@ module _ (st : List ℕ) (h : Header) (q : List ℕ) (mode : Mode) (a : List ℕ
       go Mode.Plain z = absurd (let v : _≡_ {A = ℕ} 0 1 = cc in omega arith)
       go Mode.Inclusive z = d
 
-  module _ (e : t ≡ false) (s : Bool) (lower-is : s ≡ isBelow a q) where
+  module _ (e : t ≡ false) (s : Bool) (lower-is : s ≡ follows (afterKey a) q) where
     by-mode : ((o : Ordering) → order a q ≡ o → Did (listIn st h q (choose o q a a) false n out) r out′) → Did (nextIn st h q mode a n out) r out′
     by-mode f = go mode (sym is ∙ e)
       where

@@ -29,11 +29,11 @@ use Rattle.trie.specs.declared.find.Exact.{Exact}
 use Rattle.trie.proofs.KeepLaws.{find-stands}
 use Rattle.trie.proofs.UnreadLaws.{Alike, Agrees, agrees, leaf-alike, head-alike, value-alike, find-alike, insert-alike, remove-alike, created-alike}
 use Rattle.index.specs.Layout.{withLimit}
-use Rattle.index.specs.Replies.{insertedOf}
+use Rattle.index.specs.Replies.{insertedOf, modeOf}
 use Rattle.index.specs.Calls.{onHead, createCall, emptyCall, limitCall, insertedIn, insertCall, gotOf, gotIn, getCall, overwritten, overwrittenIn, overwriteCall, removed, removedIn, removeCall}
 use Rattle.iterator.specs.declared.page.Listed.{Listed}
 use Rattle.iterator.proofs.UnreadLaws.{page-alike}
-use Rattle.index.specs.Pages.{modeOf, countWrong, namedPage, pageCall}
+use Rattle.index.specs.Pages.{countWrong, namedPage, pageCall}
 use Rattle.index.specs.declared.pages.Mode.{Mode}
 use Rattle.index.specs.declared.pages.Paged.{Paged}
 use Rattle.index.specs.declared.changed.Changed.{Changed}

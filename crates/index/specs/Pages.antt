@@ -5,10 +5,8 @@ use mathlib.Core.Bool.{Bool, true, false, cond, _||_}
 use mathlib.Core.List.{List}
 use lib.Dec.{eqb, ltb}
 use lib.ListN.{length}
-use Rattle.model.specs.Key.{order}
-use Rattle.model.specs.Map.{choose}
 use Rattle.model.specs.Numbers.{pageLimit, entryLimit}
-use Rattle.model.specs.Page.{plain, inclusive, From, start, afterKey, Mode as Listing}
+use Rattle.model.specs.Page.{From, start, afterKey}
 use Rattle.model.specs.Picture.{tooLong}
 use Rattle.pictures.specs.After.{bound, boundToo}
 use Rattle.node.specs.Header.{headOf}
@@ -16,21 +14,14 @@ use Rattle.node.specs.declared.header.Header.{Header}
 use Rattle.trie.specs.Writes.{Outcome, outcome}
 use Rattle.iterator.specs.Page.{listIn}
 use Rattle.iterator.specs.declared.page.Listed.{Listed}
+use Rattle.index.specs.Replies.{modeOf}
 use Rattle.index.specs.Calls.{onHead}
 use Rattle.index.specs.declared.pages.Mode.{Mode}
 use Rattle.index.specs.declared.pages.Paged.{Paged}
 
--- "A plain listing .. an inclusive one"
-abbrev pub modeOf : Mode → Listing
-modeOf Mode.Plain = plain
-modeOf Mode.Inclusive = inclusive
-
 abbrev pub isInclusive : Mode → Bool
 isInclusive Mode.Plain = false
 isInclusive Mode.Inclusive = true
-
-abbrev pub isBelow : List ℕ → List ℕ → Bool
-isBelow a b = choose (order a b) true false false
 
 -- "page size is 0 or over 256, or the output is too short"
 abbrev pub countWrong : (n room : ℕ) → Bool
@@ -51,7 +42,7 @@ pageIn st h q mode from n out = listIn st h q (bound (modeOf mode) q from) (boun
 abbrev pub nextIn : List ℕ → Header → (q : List ℕ) → Mode → (a : List ℕ) → ℕ → List ℕ → Outcome Listed
 nextIn st h q mode a n out = pageIn st h q mode (afterKey a) n out
 
--- "STORE, KEY (prefix or after-key over the limit), COUNT .., in that order"
+-- "The table's order 10 to 16 is the order of the checks": STORE, then KEY of the prefix or the after-key, then COUNT, then the page
 abbrev pub pageCall : (long : Bool) (q : List ℕ) → Mode → From → (n : ℕ) (st out : List ℕ) → Outcome Paged
 pageCall long q mode from n st out =
     onHead (outcome Paged.Store out)

@@ -4,6 +4,7 @@ use Prim.Native.Nat.{ℕ}
 use mathlib.Core.Bool.{false, cond}
 use lib.Dec.{eqb}
 use Rattle.model.specs.Answers.{number, DONE, REPLACED, STORE, KEY, HEIGHT, FULL, ABSENT, COUNT, ROOM}
+use Rattle.model.specs.Page as Page
 use Rattle.promises.specs.Meaning.{Reply, alone}
 use Rattle.node.specs.declared.create.Made.{Made}
 use Rattle.audit.specs.declared.Checked.{Checked}
@@ -12,6 +13,7 @@ use Rattle.index.specs.declared.changed.Changed.{Changed}
 use Rattle.index.specs.declared.get.Got.{Got}
 use Rattle.index.specs.declared.insert.Inserted.{Inserted}
 use Rattle.index.specs.declared.is_empty.Empty.{Empty}
+use Rattle.index.specs.declared.pages.Mode.{Mode}
 use Rattle.index.specs.declared.pages.Paged.{Paged}
 use Rattle.index.specs.declared.set_limit.Limited.{Limited}
 
@@ -70,6 +72,11 @@ changedReply Changed.Done = alone DONE
 changedReply Changed.Store = alone STORE
 changedReply Changed.Key = alone KEY
 changedReply Changed.Absent = alone ABSENT
+
+-- "A plain listing .. an inclusive one"
+abbrev pub modeOf : Mode → Page.Mode
+modeOf Mode.Plain = Page.plain
+modeOf Mode.Inclusive = Page.inclusive
 
 -- first_page and next_page: the entries are counted, and the bytes that they take stand beside the answer as its value
 abbrev pub pageReply : Paged → Reply

@@ -1,4 +1,5 @@
 // Listings, page by page. "From the start" is not "after the empty key", so they are two calls.
+use iterator::entry::ENTRY_LIMIT;
 use iterator::page::Listed;
 use iterator::page::list;
 use node::header::Head;
@@ -11,13 +12,14 @@ ghost use mathlib.Core.Path.{_≡_};
 ghost use Prim.Native.Nat.{_≤_, _*_};
 ghost use lib.ListN.{length};
 ghost use Rattle.model.specs.Key.{keyLimit};
+ghost use Rattle.model.specs.Page.{afterKey, follows};
 ghost use Rattle.model.specs.Numbers.{entryLimit};
 ghost use Rattle.node.specs.Layout.{start};
 ghost use Rattle.trie.specs.Writes.{Did};
 ghost use Rattle.promises.specs.Promises.{FirstPage, NextPage};
 ghost use Rattle.index.specs.Layout.{layout};
-ghost use Rattle.index.specs.Replies.{pageReply};
-ghost use Rattle.index.specs.Pages.{modeOf, isInclusive, isBelow, countWrong, pagedOf, nextIn, firstCall, nextCall};
+ghost use Rattle.index.specs.Replies.{modeOf, pageReply};
+ghost use Rattle.index.specs.Pages.{isInclusive, countWrong, pagedOf, nextIn, firstCall, nextCall};
 
 // Whether the key that is equal to the prefix is listed.
 pub enum Mode {
@@ -42,8 +44,6 @@ pub enum Paged {
 
 const PAGE_LIMIT: u32 = 256;
 
-const ENTRY_LIMIT: usize = KEY_LIMIT + 10;
-
 // A size that no page has, or an output that is too short for it.
 fn count_wrong(n: u32, room: usize) -> bool
     ensures { λ r. ⌜ r ≡ countWrong n room ⌝ }
@@ -60,7 +60,7 @@ fn count_wrong(n: u32, room: usize) -> bool
 // Whether one key lies below another.
 fn is_below(a: &[u8], b: &[u8]) -> bool
     requires { ⌜ length (now a) ≤ keyLimit ⌝ }
-    ensures { λ r. ⌜ r ≡ isBelow (now (a .entry)) (now (b .entry)) ⌝ }
+    ensures { λ r. ⌜ r ≡ follows (afterKey (now (a .entry))) (now (b .entry)) ⌝ }
 {
     let place = critical(a, b);
     nibble(a, place) < nibble(b, place)

@@ -20,7 +20,7 @@ use Rattle.node.specs.declared.child.Link.{Link}
 use Rattle.node.specs.declared.child.Linked.{Linked}
 use Rattle.node.specs.declared.child.Linked.the-variants.{To, Absent, Wrong as WrongLink}
 use Rattle.node.specs.declared.header.Header.{Header}
-use Rattle.trie.specs.Walk.{steps, linkIn, onLinked, walk, near, first}
+use Rattle.trie.specs.Walk.{depth, steps, linkIn, onLinked, walk, near, first}
 use Rattle.trie.specs.Writes.{Outcome, outcome, onClosest}
 use Rattle.trie.specs.declared.descent.Walked.{Walked}
 use Rattle.trie.specs.declared.descent.Walked.the-variants.{At, Missing, Wrong as NoTree}
@@ -95,7 +95,7 @@ module _ (st q b : List ℕ) (too : Bool) (n : ℕ) (out : List ℕ) where
   beside-decent cap l k = go (startsWith q k)
     where
       go : (s : Bool) → Decent out (cond s (listPast st cap b too n out l k) (outcome nothing out))
-      go true = walked-decent n out (after st cap b (critical b k) (passes too b k) steps l)
+      go true = walked-decent n out (after st cap b (critical b k) (passes too b k) depth l)
       go false = unwritten out nothing
 
   under-decent : (cap : ℕ) (l : Link) → Decent out (listUnder st cap q b too n out l)

@@ -77,7 +77,7 @@ module _ (st : List ℕ) (cap : ℕ) (few : cap ≤ most) where
   mutual
     unfolding kids
 
-    pub below-tree : (t : Tree) → Holds (memoryOf st) t → Picture t → I t → (f low : ℕ) → StartsAt low t → 2 * keyLimit < f + low → below st cap f 0 (linkTo (root t)) ≡ given (listing t)
+    pub below-tree : (t : Tree) → Holds (memoryOf st) t → Picture t → I t → (f low : ℕ) → StartsAt low t → 2 * keyLimit ≤ f + low → below st cap f 0 (linkTo (root t)) ≡ given (listing t)
     below-tree (leaf n k v) h pic i f low s b = below-leaf st cap f 0 (linkTo (toLeaf n)) (record { 0 = n }) refl ∙ ap (λ (e : Entry). some e ∷ []) (entry-is n k v h)
     below-tree (branch n p ks) h pic i zero low s b = absurd (omega (arith, place-bound n p ks pic))
     below-tree (branch n p ks) h pic i (suc f) low s b =
@@ -85,7 +85,7 @@ module _ (st : List ℕ) (cap : ℕ) (few : cap ≤ most) where
         ∙ ap₂ (λ (g : ℕ) (es : List Item). kids cap (λ m. below st cap g 0 m) es) (less f) (h .0)
         ∙ kids-tree ks n p (pic .0) (h .1) (pic .1) i f (omega arith)
 
-    pub kids-tree : (ks : Kids) (n p : ℕ) (w : List ℕ) → HoldsAll (memoryOf st) ks → Pictures p w ks → I (branch n p ks) → (f : ℕ) → 2 * keyLimit < f + suc p
+    pub kids-tree : (ks : Kids) (n p : ℕ) (w : List ℕ) → HoldsAll (memoryOf st) ks → Pictures p w ks → I (branch n p ks) → (f : ℕ) → 2 * keyLimit ≤ f + suc p
         → kids cap (λ m. below st cap f 0 m) (codes (row ks)) ≡ given (listings ks)
     kids-tree end n p w h pic i f b = refl
     kids-tree (kid s t ks) n p w h pic i f b =
@@ -168,7 +168,7 @@ module _ (st : List ℕ) (cap : ℕ) (few : cap ≤ most) where
             ∙ ap₂ (λ (g : ℕ) (es : List Item). kids cap (λ m. below st cap g 0 m) (drop i es)) (less f) (h .0)
 
     mutual
-      pub after-tree : (t : Tree) → Holds (memoryOf st) t → Picture t → I t → (f low : ℕ) → StartsAt low t → 2 * keyLimit < f + low
+      pub after-tree : (t : Tree) → Holds (memoryOf st) t → Picture t → I t → (f low : ℕ) → StartsAt low t → 2 * keyLimit ≤ f + low
           → after st cap b c up f (linkTo (root t)) ≡ given (afterT b c up t)
       after-tree (leaf n k v) h pic i f low s g =
           after-leaf st cap b c up f (linkTo (toLeaf n)) (record { 0 = n }) refl
@@ -182,7 +182,7 @@ module _ (st : List ℕ) (cap : ℕ) (few : cap ≤ most) where
       after-tree (branch n p ks) h pic i (suc f) low s g =
           at-branch n p ks h pic f (after-kids ks n p (pic .0) (h .1) (pic .1) i 0 (pic .2) f (omega arith)) (below-tree (branch n p ks) h pic i (suc f) low s g) (decLt c p)
 
-      after-kids : (ks : Kids) (n p : ℕ) (w : List ℕ) → HoldsAll (memoryOf st) ks → Pictures p w ks → I (branch n p ks) → (low : ℕ) → SlotsRise low ks → (f : ℕ) → 2 * keyLimit < f + suc p
+      after-kids : (ks : Kids) (n p : ℕ) (w : List ℕ) → HoldsAll (memoryOf st) ks → Pictures p w ks → I (branch n p ks) → (low : ℕ) → SlotsRise low ks → (f : ℕ) → 2 * keyLimit ≤ f + suc p
           → onSlot f (nibble b p) (codes (row ks)) ≡ given (afterK b c up (nibble b p) ks)
       after-kids end n p w h pic i low rise f g = nothing-there f (nibble b p)
       after-kids (kid r t ks) n p w h pic i low rise f g =

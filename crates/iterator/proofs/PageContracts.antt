@@ -28,7 +28,7 @@ use Rattle.node.specs.declared.child.Linked.{Linked}
 use Rattle.node.specs.declared.child.Linked.the-variants.{To}
 use Rattle.node.specs.declared.header.Header.{Header}
 use Rattle.node.proofs.HeaderLaws.{block-in}
-use Rattle.trie.specs.Walk.{steps, linkIn, walk, near, first, Lies, Sound}
+use Rattle.trie.specs.Walk.{depth, steps, linkIn, walk, near, first, Lies, Sound}
 use Rattle.trie.specs.Writes.{Outcome, outcome, Did, onClosest}
 use Rattle.trie.specs.declared.descent.Step.{Step}
 use Rattle.trie.specs.declared.descent.Walked.{Walked}
@@ -123,10 +123,10 @@ did : {A : Type 0} (o p : Outcome A) {r : A} {b : List ℕ} → o ≡ p → Did 
 did o p e d = rw e d
 
 pub past-written : (st : List ℕ) (cap : ℕ) (b : List ℕ) (too : Bool) (n : ℕ) (out : List ℕ) (l : Link) (m : ℕ) (k : List ℕ) (c : ℕ) (up : Bool) (out′ : List ℕ) (p : Progress) (r : Listed)
-    → k ≡ leafIn st m .key → c ≡ critical b k → up ≡ passes too b k → sheet out′ p ≡ puts (after st cap b c up steps l) (blank out n) → r ≡ listedOf n (p .at) (p .left) (p .stop)
+    → k ≡ leafIn st m .key → c ≡ critical b k → up ≡ passes too b k → sheet out′ p ≡ puts (after st cap b c up depth l) (blank out n) → r ≡ listedOf n (p .at) (p .left) (p .stop)
     → Did (listPast st cap b too n out l (leafIn st m .key)) r out′
 past-written st cap b too n out l m k c up out′ p r key ec eu g h =
-    let whole : sheet out′ p ≡ puts (after st cap b (critical b k) (passes too b k) steps l) (blank out n) = g ∙ rw (ec, eu) in
+    let whole : sheet out′ p ≡ puts (after st cap b (critical b k) (passes too b k) depth l) (blank out n) = g ∙ rw (ec, eu) in
     rw (← key) (h ∙ ap (λ (x : Sheet). listedOf n (x .at) (x .left) (x .stop)) whole, ap (λ (x : Sheet). x .out) whole)
 
 pub closest-below : (cap : ℕ) (w : Closest) (m : LeafNo) (d : ℕ) → Sound cap w → w ≡ Leaf m d → m .0 < cap

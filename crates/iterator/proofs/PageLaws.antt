@@ -29,7 +29,7 @@ use Rattle.node.specs.Header.{headIn}
 use Rattle.node.specs.Leaf.{leafIn}
 use Rattle.node.specs.declared.child.Link.{Link}
 use Rattle.trie.specs.Accepted.{linkTo, memoryOf, Accepted}
-use Rattle.trie.specs.Walk.{steps, onLinked, walk, near, first}
+use Rattle.trie.specs.Walk.{depth, steps, onLinked, walk, near, first}
 use Rattle.trie.specs.Writes.{Outcome, outcome, onClosest}
 use Rattle.trie.specs.declared.descent.Spot.the-variants.{Root}
 use Rattle.trie.specs.declared.descent.Walked.{Walked}
@@ -93,7 +93,7 @@ module _ (st q b : List ℕ) (too : Bool) (n : ℕ) (out : List ℕ) where
       past : listPast st cap b too n out (linkTo (root u)) (closest b u .key) ≡ paged n (afterT b (critical b (closest b u .key)) (passes too b (closest b u .key)) u) out
       past =
           ap (λ (xs : List Met). listed n (puts xs (blank out n)))
-          (after-tree st cap f b (critical b (closest b u .key)) (passes too b (closest b u .key)) u h (r .picture) i steps 0 (starts-zero u) (omega arith))
+          (after-tree st cap f b (critical b (closest b u .key)) (passes too b (closest b u .key)) u h (r .picture) i depth 0 (starts-zero u) (omega arith))
           ∙ paged-some n (afterT b (critical b (closest b u .key)) (passes too b (closest b u .key)) u) out
 
       by : (s : Bool) → cond s (listPast st cap b too n out (linkTo (root u)) (closest b u .key)) (outcome nothing out)

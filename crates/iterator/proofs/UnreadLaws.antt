@@ -21,7 +21,7 @@ use Rattle.node.specs.declared.child.Linked.{Linked}
 use Rattle.node.specs.declared.child.Linked.the-variants.{To, Absent, Wrong as WrongLink}
 use Rattle.node.specs.declared.header.Header.{Header}
 use Rattle.node.proofs.ChildLaws.{within}
-use Rattle.trie.specs.Walk.{steps, linkIn, onLinked, onNode, walk, near, first, Lies}
+use Rattle.trie.specs.Walk.{depth, steps, linkIn, onLinked, onNode, walk, near, first, Lies}
 use Rattle.trie.specs.Writes.{Outcome, outcome, onClosest}
 use Rattle.trie.specs.declared.descent.Walked.{Walked}
 use Rattle.trie.specs.declared.descent.Walked.the-variants.{At, Missing, Wrong as NoTree}

@@ -12,7 +12,7 @@ use Rattle.node.specs.Child.{linkOf}
 use Rattle.node.specs.Leaf.{leafIn}
 use Rattle.node.specs.declared.child.Link.{Link}
 use Rattle.node.specs.declared.header.Header.{Header}
-use Rattle.trie.specs.Walk.{steps, linkIn, onLinked, walk, near, first}
+use Rattle.trie.specs.Walk.{depth, steps, linkIn, onLinked, walk, near, first}
 use Rattle.trie.specs.Writes.{Outcome, outcome, onClosest}
 use Rattle.trie.specs.declared.descent.Walked.{Walked}
 use Rattle.trie.specs.declared.descent.Walked.the-variants.{At, Missing, Wrong as NoTree}
@@ -42,7 +42,7 @@ listed n s = outcome (listedOf n (s .at) (s .left) (s .stop)) (s .out)
 
 -- The entries past b below a link, where k is the key of the closest leaf to b; and the same if k starts with the prefix.
 abbrev pub listPast : (st : List ℕ) (cap : ℕ) (b : List ℕ) (too : Bool) (n : ℕ) (out : List ℕ) → Link → (k : List ℕ) → Outcome Listed
-listPast st cap b too n out l k = listed n (puts (after st cap b (critical b k) (passes too b k) steps l) (blank out n))
+listPast st cap b too n out l k = listed n (puts (after st cap b (critical b k) (passes too b k) depth l) (blank out n))
 
 abbrev pub listBeside : (st : List ℕ) (cap : ℕ) (q b : List ℕ) (too : Bool) (n : ℕ) (out : List ℕ) → Link → (k : List ℕ) → Outcome Listed
 listBeside st cap q b too n out l k = cond (startsWith q k) (listPast st cap b too n out l k) (outcome nothing out)

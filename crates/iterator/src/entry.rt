@@ -3,6 +3,7 @@ use fields::big::write2;
 use fields::big::write4;
 use fields::write1;
 use node::child::LeafNo;
+use node::layout::KEY_LIMIT;
 ghost use mathlib.Core.Path.{_≡_};
 ghost use Prim.Native.Nat.{_≤_, _+_};
 ghost use lib.ListN.{length};
@@ -16,8 +17,16 @@ const KEY_TAG: u8 = 1;
 
 const VALUE_TAG: u8 = 2;
 
+// The tag and the length of a field, and the contents of a value's.
+const FIELD_HEAD: usize = 3;
+
+const VALUE_SIZE: usize = 4;
+
+// The longest entry.
+pub const ENTRY_LIMIT: usize = KEY_LIMIT + 2 * FIELD_HEAD + VALUE_SIZE;
+
 // The tag and the length of a field.
-fn put_field(out: &mut [u8], at: usize, tag: u8, size: u16)
+fn put_head(out: &mut [u8], at: usize, tag: u8, size: u16)
     requires { ⌜ at + 3 ≤ length (now out) ⌝ }
     ensures { λ _. ⌜ now (out .exit) ≡ splice (now (out .entry)) at (fieldHead tag size) ⌝ }
 {
@@ -33,10 +42,10 @@ pub fn write_entry(store: &[u8], leaf: LeafNo, out: &mut [u8]) -> usize
 {
     let key = node::leaf::key(store, leaf);
     let n = key.len();
-    put_field(out, 0, KEY_TAG, n as u16);
-    let e = 3 + n;
-    fields::copy(&mut out[3..e], key);
-    put_field(out, e, VALUE_TAG, 4);
-    write4(out, e + 3, node::leaf::value(store, leaf));
-    e + 7
+    put_head(out, 0, KEY_TAG, n as u16);
+    let e = FIELD_HEAD + n;
+    fields::copy(&mut out[FIELD_HEAD..e], key);
+    put_head(out, e, VALUE_TAG, VALUE_SIZE as u16);
+    write4(out, e + FIELD_HEAD, node::leaf::value(store, leaf));
+    e + FIELD_HEAD + VALUE_SIZE
 }

@@ -8,7 +8,7 @@ use node::child::Linked;
 use node::child::link_of;
 use node::header::Header;
 use trie::descent::Closest;
-use trie::descent::STEPS;
+use trie::descent::DEPTH;
 use trie::descent::Walked;
 use trie::descent::descend;
 use trie::descent::find_closest_leaf;
@@ -48,8 +48,8 @@ fn no_entry() -> Listed
     }
 }
 
-// What a walk that was to give n entries comes to. One that met what no tree has is no end: the page has what was given before, and the next page, which begins
-// there, is refused.
+// What a walk that was to give n entries comes to. Where it met what no tree has, a page that has given entries cannot be refused any more, since a refusal
+// changes no byte; it does not say end.
 fn page_of(p: Progress, n: usize) -> Listed
     requires { ⌜ p .left ≤ n ⌝ }
     ensures { λ r. ⌜ r ≡ listedOf n (p .at) (p .left) (p .stop) ⌝ }
@@ -125,7 +125,7 @@ fn list_past(
         left: n,
         stop: Stop::Going,
     };
-    let p = emit_after(store, capacity, bound, place, up, link, STEPS, out, blank);
+    let p = emit_after(store, capacity, bound, place, up, link, DEPTH, out, blank);
     page_of(p, n)
 }
 

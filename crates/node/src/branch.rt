@@ -23,8 +23,7 @@ pub fn array(store: &[u8], branch: BranchNo) -> &[u8]
     requires { ⌜ Room (now store) (branch .0) ⌝ }
     ensures { λ r. ⌜ (now r ≡ arrayIn (now (store .entry)) (branch .0)) × (length (now r) ≡ arraySize) ⌝ }
 {
-    let n = branch.0;
-    let a = array_at(n);
+    let a = array_at(branch);
     let e = a + ARRAY;
     &store[a..e]
 }
@@ -109,9 +108,8 @@ pub fn set_child(store: &mut [u8], branch: BranchNo, slot: u8, link: Link)
     requires { ⌜ (Room (now store) (branch .0)) × (numberIn (link .child) < most) ⌝ }
     ensures { λ _. ⌜ now (store .exit) ≡ setChild (now (store .entry)) (branch .0) slot link ⌝ }
 {
-    let n = branch.0;
     let item = item_of(link);
-    let a = array_at(n);
+    let a = array_at(branch);
     let e = a + ARRAY;
     sparse_array::set(&mut store[a..e], slot, item);
 }
@@ -121,8 +119,7 @@ pub fn remove_child(store: &mut [u8], branch: BranchNo, slot: u8)
     requires { ⌜ Room (now store) (branch .0) ⌝ }
     ensures { λ _. ⌜ now (store .exit) ≡ removeChild (now (store .entry)) (branch .0) slot ⌝ }
 {
-    let n = branch.0;
-    let a = array_at(n);
+    let a = array_at(branch);
     let e = a + ARRAY;
     sparse_array::remove(&mut store[a..e], slot);
 }
@@ -142,10 +139,9 @@ pub fn make_branch(store: &mut [u8], branch: BranchNo, low: u8, first: Link, hig
     requires { ⌜ (Room (now store) (branch .0)) × ((numberIn (first .child) < most) × (numberIn (second .child) < most)) ⌝ }
     ensures { λ _. ⌜ now (store .exit) ≡ makeBranch (now (store .entry)) (branch .0) low first high second ⌝ }
 {
-    let n = branch.0;
     let x = item_of(first);
     let y = item_of(second);
-    let a = array_at(n);
+    let a = array_at(branch);
     let e = a + ARRAY;
     make_two(&mut store[a..e], low, x, high, y);
 }

@@ -40,8 +40,7 @@ pub fn is_free_leaf(store: &[u8], leaf: LeafNo) -> bool
     requires { ⌜ Room (now store) (leaf .0) ⌝ }
     ensures { λ r. ⌜ r ≡ leaves .isFree (now (store .entry)) (leaf .0) ⌝ }
 {
-    let n = leaf.0;
-    let a = size_at(n);
+    let a = size_at(leaf);
     store[a] == FREE
 }
 
@@ -56,8 +55,7 @@ pub fn next_leaf(store: &[u8], leaf: LeafNo) -> u16
     requires { ⌜ Room (now store) (leaf .0) ⌝ }
     ensures { λ r. ⌜ r ≡ leaves .next (now (store .entry)) (leaf .0) ⌝ }
 {
-    let n = leaf.0;
-    let a = value_at(n);
+    let a = value_at(leaf);
     read2(store, a)
 }
 
@@ -131,10 +129,9 @@ pub fn free_leaf(store: &mut [u8], leaf: LeafNo, next: u16)
     requires { ⌜ Room (now store) (leaf .0) ⌝ }
     ensures { λ _. ⌜ now (store .exit) ≡ leaves .freed (now (store .entry)) (leaf .0) next ⌝ }
 {
-    let n = leaf.0;
-    let t = size_at(n);
+    let t = size_at(leaf);
     write1(store, t, FREE);
-    let v = value_at(n);
+    let v = value_at(leaf);
     write2(store, v, next);
 }
 
@@ -152,8 +149,7 @@ pub fn free_branch(store: &mut [u8], branch: BranchNo, next: u16)
     requires { ⌜ Room (now store) (branch .0) ⌝ }
     ensures { λ _. ⌜ now (store .exit) ≡ branches .freed (now (store .entry)) (branch .0) next ⌝ }
 {
-    let n = branch.0;
-    let a = array_at(n);
+    let a = array_at(branch);
     let e = a + ARRAY;
     empty_array(&mut store[a..e], next);
 }

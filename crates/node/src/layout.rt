@@ -1,5 +1,7 @@
 // The sizes and places of the layout. A block is KEY_LIMIT key bytes and a tail of 64 bytes: the branch record's sparse array, the leaf record's
 // length and value, and 4 bytes that nothing reads or writes.
+use crate::child::BranchNo;
+use crate::child::LeafNo;
 ghost use mathlib.Core.Path.{_≡_};
 ghost use Prim.Native.Nat.{_≤_};
 ghost use Rattle.model.specs.Numbers.{most, capacityOf};
@@ -36,27 +38,34 @@ pub fn capacity_of(len: usize) -> u16
     if n <= MOST { n as u16 } else { MOST as u16 }
 }
 
-// Where block n starts, and where in it the branch record's array, the leaf record's length and its value stand.
-pub fn start(n: u16) -> usize
+// Where block n starts.
+fn start(n: u16) -> usize
     ensures { λ r. ⌜ r ≡ startOf n ⌝ }
 {
     HEAD + BLOCK * (n as usize)
 }
 
-pub fn array_at(n: u16) -> usize
-    ensures { λ r. ⌜ r ≡ arrayAt n ⌝ }
+// Where a branch record's array stands, and a leaf record's key, length and value: each by a number of its own kind.
+pub fn array_at(branch: BranchNo) -> usize
+    ensures { λ r. ⌜ r ≡ arrayAt (branch .0) ⌝ }
 {
-    start(n) + KEY_LIMIT
+    start(branch.0) + KEY_LIMIT
 }
 
-pub fn size_at(n: u16) -> usize
-    ensures { λ r. ⌜ r ≡ sizeAt n ⌝ }
+pub fn key_at(leaf: LeafNo) -> usize
+    ensures { λ r. ⌜ r ≡ startOf (leaf .0) ⌝ }
 {
-    start(n) + KEY_LIMIT + ARRAY
+    start(leaf.0)
 }
 
-pub fn value_at(n: u16) -> usize
-    ensures { λ r. ⌜ r ≡ valueAt n ⌝ }
+pub fn size_at(leaf: LeafNo) -> usize
+    ensures { λ r. ⌜ r ≡ sizeAt (leaf .0) ⌝ }
 {
-    start(n) + KEY_LIMIT + ARRAY + 1
+    start(leaf.0) + KEY_LIMIT + ARRAY
+}
+
+pub fn value_at(leaf: LeafNo) -> usize
+    ensures { λ r. ⌜ r ≡ valueAt (leaf .0) ⌝ }
+{
+    start(leaf.0) + KEY_LIMIT + ARRAY + 1
 }

@@ -139,13 +139,13 @@ module _ (L : Layout) (law : Lawful L) (P : Programs L) where
       ap (λ (r : Reply). r .count) (P .firsts [] inclusive 1 made output nothing-lent (omega arith) made-lent output-lent .answers (empty 7 2) made-means)
 
   -- a page that is always empty with end
-  pub always-empty : ((q : List ℕ) (mode : Mode) (n : ℕ) (st out : List ℕ) → Slice q → n < limitBound → Slice st → Slice out
+  pub always-empty : ((q : List ℕ) (mode : Mode) (n : ℕ) (st out : List ℕ) → Slice q → n < valueBound → Slice st → Slice out
       → P .firstPage q mode n st out .reply .count ≡ 0) → ⊥
   always-empty wrong =
       omega (arith, wrong [] inclusive 1 (filled 7) output nothing-lent (omega arith) (filled-lent 7 (omega arith)) output-lent, first-count 7 (omega arith))
 
   -- later pages that say end at once
-  pub ends-at-once : ((q : List ℕ) (mode : Mode) (k : List ℕ) (n : ℕ) (st out : List ℕ) → Slice q → Slice k → n < limitBound → Slice st → Slice out
+  pub ends-at-once : ((q : List ℕ) (mode : Mode) (k : List ℕ) (n : ℕ) (st out : List ℕ) → Slice q → Slice k → n < valueBound → Slice st → Slice out
       → P .nextPage q mode k n st out .reply .count ≡ 0) → ⊥
   unfolding output two-keys x order
   ends-at-once wrong =
@@ -157,7 +157,7 @@ module _ (L : Layout) (law : Lawful L) (P : Programs L) where
       )
 
   -- a page count that is made up: the same whatever is stored
-  pub made-up-count : (c : ℕ) → ((q : List ℕ) (mode : Mode) (n : ℕ) (st out : List ℕ) → Slice q → n < limitBound → Slice st → Slice out
+  pub made-up-count : (c : ℕ) → ((q : List ℕ) (mode : Mode) (n : ℕ) (st out : List ℕ) → Slice q → n < valueBound → Slice st → Slice out
       → P .firstPage q mode n st out .reply .count ≡ c) → ⊥
   made-up-count c wrong =
       omega (

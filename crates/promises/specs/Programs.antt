@@ -1,5 +1,5 @@
 -- A set of programs for the public calls, as functions on what they are lent, that keeps the promises. Each promise is asked on what the call's types let in and on
--- nothing else: slices of bytes, values of 32 bits, limits and page sizes of 16.
+-- nothing else: slices of bytes, values and page sizes of 32 bits, limits of 16.
 -- Assumes nothing.
 use Prim.Native.Nat.{ℕ, _<_}
 use mathlib.Core.List.{List}
@@ -41,16 +41,16 @@ pub record Programs (L : Layout) : Type 0 where
   pub overwrites : (k : List ℕ) (v : ℕ) (st : List ℕ) → Slice k → v < valueBound → Slice st
       → Overwrite L k v st (overwrite k v st .bytes) (overwrite k v st .reply)
   pub removes : (k st : List ℕ) → Slice k → Slice st → Remove L k st (remove k st .bytes) (remove k st .reply)
-  pub firsts : (q : List ℕ) (mode : Mode) (n : ℕ) (st out : List ℕ) → Slice q → n < limitBound → Slice st → Slice out
+  pub firsts : (q : List ℕ) (mode : Mode) (n : ℕ) (st out : List ℕ) → Slice q → n < valueBound → Slice st → Slice out
       → FirstPage L q mode n st out (firstPage q mode n st out .bytes) (firstPage q mode n st out .reply)
-  pub nexts : (q : List ℕ) (mode : Mode) (k : List ℕ) (n : ℕ) (st out : List ℕ) → Slice q → Slice k → n < limitBound → Slice st → Slice out
+  pub nexts : (q : List ℕ) (mode : Mode) (k : List ℕ) (n : ℕ) (st out : List ℕ) → Slice q → Slice k → n < valueBound → Slice st → Slice out
       → NextPage L q mode k n st out (nextPage q mode k n st out .bytes) (nextPage q mode k n st out .reply)
   pub create-bytes : (limit : ℕ) (st : List ℕ) → limit < limitBound → Slice st → Bytes (create limit st .bytes)
   pub set-limit-bytes : (limit : ℕ) (st : List ℕ) → limit < limitBound → Slice st → Bytes (setLimit limit st .bytes)
   pub insert-bytes : (k : List ℕ) (v : ℕ) (st : List ℕ) → Slice k → v < valueBound → Slice st → Bytes (insert k v st .bytes)
   pub overwrite-bytes : (k : List ℕ) (v : ℕ) (st : List ℕ) → Slice k → v < valueBound → Slice st → Bytes (overwrite k v st .bytes)
   pub remove-bytes : (k st : List ℕ) → Slice k → Slice st → Bytes (remove k st .bytes)
-  pub first-bytes : (q : List ℕ) (mode : Mode) (n : ℕ) (st out : List ℕ) → Slice q → n < limitBound → Slice st → Slice out
+  pub first-bytes : (q : List ℕ) (mode : Mode) (n : ℕ) (st out : List ℕ) → Slice q → n < valueBound → Slice st → Slice out
       → Bytes (firstPage q mode n st out .bytes)
-  pub next-bytes : (q : List ℕ) (mode : Mode) (k : List ℕ) (n : ℕ) (st out : List ℕ) → Slice q → Slice k → n < limitBound → Slice st → Slice out
+  pub next-bytes : (q : List ℕ) (mode : Mode) (k : List ℕ) (n : ℕ) (st out : List ℕ) → Slice q → Slice k → n < valueBound → Slice st → Slice out
       → Bytes (nextPage q mode k n st out .bytes)

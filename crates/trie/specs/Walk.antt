@@ -23,9 +23,13 @@ use Rattle.trie.specs.declared.descent.Walked.the-variants.{At, Missing,
 use Rattle.trie.specs.declared.descent.Closest.{Closest}
 use Rattle.trie.specs.declared.descent.Closest.the-variants.{Leaf, Wrong as NoLeaf}
 
+-- "Depth of a leaf: the branches above it, at most 128."
+abbrev pub depth : ℕ
+depth = 2 * keyLimit
+
 -- "A descent ends at a leaf, a missing slot or the 129th step."
 abbrev pub steps : ℕ
-steps = 2 * keyLimit + 1
+steps = depth + 1
 
 abbrev pub step : Link → Spot → Spot → Step
 step l at above = record { child = l .child; position = l .position; at = at; above = above }

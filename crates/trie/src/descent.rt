@@ -16,8 +16,10 @@ ghost use Rattle.node.specs.Layout.{start};
 ghost use Rattle.node.specs.Child.{numberIn};
 ghost use Rattle.trie.specs.Walk.{steps, walk, near, first, Lies, Sound};
 
-// A descent of a picture passes a branch for each position at most, and ends at a leaf.
-pub const STEPS: usize = 2 * KEY_LIMIT + 1;
+// A path of a picture has a branch for each position at most, and ends at a leaf.
+pub const DEPTH: usize = 2 * KEY_LIMIT;
+
+pub const STEPS: usize = DEPTH + 1;
 
 // Where a link stands: in the header, or in a slot of a branch.
 pub enum Spot {

@@ -7,11 +7,11 @@ use Rattle.iterator.proofs.entry.write_entry.Tie as tie
 key-requires : tie.Need-key-requires
 key-requires c κs = search needs
 
-cast-put-field : tie.Need-cast-put-field
-cast-put-field c = search needs
+cast-put-head : tie.Need-cast-put-head
+cast-put-head c = search needs
 
-put-field-requires : tie.Need-put-field-requires
-put-field-requires c κs = search needs
+put-head-requires : tie.Need-put-head-requires
+put-head-requires c κs = search needs
 
 add-e : tie.Need-add-e
 add-e c = search needs
@@ -28,8 +28,8 @@ part-copy-end c = search needs
 copy-requires : tie.Need-copy-requires
 copy-requires c κs = search needs
 
-put-field-requires-2 : tie.Need-put-field-requires-2
-put-field-requires-2 c κs = search needs
+put-head-requires-2 : tie.Need-put-head-requires-2
+put-head-requires-2 c κs = search needs
 
 add-write4 : tie.Need-add-write4
 add-write4 c = search needs
@@ -54,14 +54,14 @@ write-entry-spec =
     tie.close
     (tie.spec
     key-requires
-    cast-put-field
-    put-field-requires
+    cast-put-head
+    put-head-requires
     add-e
     sub-copy
     part-copy-start
     part-copy-end
     copy-requires
-    put-field-requires-2
+    put-head-requires-2
     add-write4
     value-requires
     write4-requires

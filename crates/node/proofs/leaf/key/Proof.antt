@@ -4,8 +4,8 @@ use borrow.Author.Needs.{needs}
 use Rattle.node.proofs.leaf.key.Statement.{statement}
 use Rattle.node.proofs.leaf.key.Tie as tie
 
-start-requires : tie.Need-start-requires
-start-requires c κs = search needs
+key-at-requires : tie.Need-key-at-requires
+key-at-requires c κs = search needs
 
 key-size-requires : tie.Need-key-size-requires
 key-size-requires c κs = search needs
@@ -29,7 +29,7 @@ pub key-spec : {M : Type 1} → statement M
 key-spec =
     tie.close
     (tie.spec
-    start-requires
+    key-at-requires
     key-size-requires
     add-e
     sub-result

@@ -19,8 +19,8 @@ value-at-requires c κs = search needs
 write4-requires : tie.Need-write4-requires
 write4-requires c κs = search needs
 
-start-requires : tie.Need-start-requires
-start-requires c κs = search needs
+key-at-requires : tie.Need-key-at-requires
+key-at-requires c κs = search needs
 
 add-e : tie.Need-add-e
 add-e c = search needs
@@ -52,7 +52,7 @@ write-leaf-spec =
     write1-requires
     value-at-requires
     write4-requires
-    start-requires
+    key-at-requires
     add-e
     sub-copy
     part-copy-start

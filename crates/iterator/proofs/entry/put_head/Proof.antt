@@ -1,8 +1,8 @@
--- `iterator::entry::put_field` meets its contract: the tag, and the length after it. Assumes nothing.
+-- `iterator::entry::put_head` meets its contract: the tag, and the length after it. Assumes nothing.
 use Rattle.iterator.proofs.EntryLaws.{field-written}
 use borrow.Author.Needs.{needs}
-use Rattle.iterator.proofs.entry.put_field.Statement.{statement}
-use Rattle.iterator.proofs.entry.put_field.Tie as tie
+use Rattle.iterator.proofs.entry.put_head.Statement.{statement}
+use Rattle.iterator.proofs.entry.put_head.Tie as tie
 
 write1-requires : tie.Need-write1-requires
 write1-requires c κs = search needs
@@ -19,6 +19,6 @@ same-length c = search needs
 returns : tie.Need-returns
 returns c = search (field-written, needs)
 
-pub put-field-spec : {M : Type 1} → statement M
-put-field-spec =
+pub put-head-spec : {M : Type 1} → statement M
+put-head-spec =
     tie.close (tie.spec write1-requires add-write2 write2-requires same-length returns)
