@@ -48,8 +48,8 @@ fn no_entry() -> Listed
     }
 }
 
-// What a walk that was to give n entries comes to. One that met what no tree has is no end: the page has what was given before, and the next page, which begins
-// there, is refused.
+// What a walk that was to give n entries comes to. One that met what no tree has is no end: the page has what was given before, and if there is nothing it is
+// refused. The next page begins there, and is refused where the keys given stand as in a tree.
 fn page_of(p: Progress, n: usize) -> Listed
     requires { ⌜ p .left ≤ n ⌝ }
     ensures { λ r. ⌜ r ≡ listedOf n (p .at) (p .left) (p .stop) ⌝ }

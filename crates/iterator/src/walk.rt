@@ -1,5 +1,6 @@
 // The walk over what a page gives. It stops at the first entry past those that are wanted, and at the first thing that is wrong. So whatever the bytes, each way
-// down ends at an entry that is given or ends the walk, and a page costs no more than its entries and one more, each with the branches above it.
+// down beside the one to where it begins ends at an entry that is given or ends the walk, and a page costs no more than that one way, and its entries and one
+// more, each with the branches above it.
 use crate::entry::write_entry;
 use node::branch::child_at;
 use node::branch::child_count;
