@@ -1,4 +1,5 @@
-// The public face: each call's contract is its promise, on any bytes and with nothing required.
+// The public face. A call has two contracts, on any bytes and with nothing required: its promise, which a caller relies on, and what it does, answer and bytes
+// (`is`). The check has its promise alone.
 pub mod changed;
 pub mod check;
 pub mod create;
