@@ -34,10 +34,10 @@ entry-size : (k : List ℕ) (v : ℕ) → length (entryBytes (k, v)) ≡ 3 + len
 entry-size k v = let e = length-append (fieldHead 1 (length k) ++ k) (fieldHead 2 4 ++ fourBytes v) in omega (arith, e)
 
 module _ (st : List ℕ) (n : ℕ) (k : List ℕ) (key : k ≡ leafIn st n .key) (short : length k ≤ keyLimit) where
-  pub size-is : 3 + length k + 7 ≡ length (entryBytes (entryIn st n))
-  size-is = rw (← key) (sym (entry-size k (leafIn st n .value)))
+  pub size-is : length k + 10 ≡ length (entryBytes (entryIn st n))
+  size-is = rw (← key) (omega (arith, entry-size k (leafIn st n .value)))
 
-  pub size-fits : 3 + length k + 7 ≤ entryLimit
+  pub size-fits : length k + 10 ≤ entryLimit
   size-fits = omega arith
 
   pub entry-written : (p out s₁ s₃ s₄ : List ℕ) (v : ℕ) → entryLimit ≤ length out → v ≡ leafIn st n .value → Fits w32 v → s₁ ≡ splice out 0 (fieldHead 1 (length k)) → p ≡ k

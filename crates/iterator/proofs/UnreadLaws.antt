@@ -127,7 +127,7 @@ module _ {cap : ℕ} {st su : List ℕ} (a : Alike cap st su) where
         go (Leaf m d) r =
             ap (λ (x : LeafRecord). listBeside su cap q b too n out l (x .key)) (leaf-alike a (m .0) r)
             ∙ (let k = leafIn st (m .0) .key in
-            ap (λ (xs : List Met). cond (startsWith q k) (listed n (puts xs (blank out n))) (outcome nothing out)) (after-alike b (critical b k) (passes too b k) steps l h))
+            ap (λ (xs : List Met). cond (startsWith q k) (listed n (puts xs (blank out n))) (outcome nothing out)) (after-alike b (critical b k) (passes too b k) depth l h))
         go NoLeaf r = refl
 
     walked-alike : (w : Walked) → Lies cap w → onWalked su cap q b too n out w ≡ onWalked st cap q b too n out w

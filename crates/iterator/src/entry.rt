@@ -20,10 +20,13 @@ const VALUE_TAG: u8 = 2;
 // The tag and the length of a field, and the contents of a value's.
 const FIELD_HEAD: usize = 3;
 
-const VALUE_SIZE: usize = 4;
+const VALUE_SIZE: u16 = 4;
+
+// An entry without its key.
+const ENTRY_REST: usize = 10;
 
 // The longest entry.
-pub const ENTRY_LIMIT: usize = KEY_LIMIT + 2 * FIELD_HEAD + VALUE_SIZE;
+pub const ENTRY_LIMIT: usize = KEY_LIMIT + ENTRY_REST;
 
 // The tag and the length of a field.
 fn put_head(out: &mut [u8], at: usize, tag: u8, size: u16)
@@ -45,7 +48,7 @@ pub fn write_entry(store: &[u8], leaf: LeafNo, out: &mut [u8]) -> usize
     put_head(out, 0, KEY_TAG, n as u16);
     let e = FIELD_HEAD + n;
     fields::copy(&mut out[FIELD_HEAD..e], key);
-    put_head(out, e, VALUE_TAG, VALUE_SIZE as u16);
+    put_head(out, e, VALUE_TAG, VALUE_SIZE);
     write4(out, e + FIELD_HEAD, node::leaf::value(store, leaf));
-    e + FIELD_HEAD + VALUE_SIZE
+    n + ENTRY_REST
 }
