@@ -4,3 +4,7 @@ pub mod WriteLaws
 pub mod PieceLaws
 pub mod CasesHold
 pub mod RoundTrip
+pub mod AnswerLaws
+pub mod LineLaws
+pub mod PageLines
+pub mod Listings

@@ -1,0 +1,40 @@
+-- Laws of a page's lines.
+-- Assumes nothing.
+use Prim.Native.Nat.{ℕ, zero, suc, _+_, _*_, _-_, _≤_, _<_}
+use mathlib.Core.Path.{_≡_, refl}
+use mathlib.Core.List.{List}
+use native.Mathlib.Omega.{arith}
+use lib.ListN.{length, getD, take, drop, length-take, length-drop}
+use lib.Seq.{take-all}
+use borrow.Author.Tests.{lt-ltb, le-ltb}
+use borrow.Rule.Slice.PartMut.{putMid}
+use Rattle.command.specs.Answer.{entryText}
+use Rattle.command.specs.Code.{Wrote}
+use Rattle.command.proofs.WriteLaws.{wrote-none, wrote-as, wrote-rest, entry-few}
+use Rattle.command.specs.PageText.{valueAt, pageText}
+
+module _ (c : ℕ) (l : List ℕ) {o : List ℕ} where
+  pub page-none : c ≡ 0 → Wrote (pageText c l) o o 0
+  unfolding pageText
+  page-none e = rw e (wrote-none o)
+
+pub page-bad : (c : ℕ) (l : List ℕ) {o : List ℕ} {k : ℕ} → (c ≡ 0 → ⊥) → k ≡ getD l 2 0 → 64 < k → Wrote (pageText c l) o o 0
+unfolding pageText
+page-bad zero l ne e h = absurd (ne refl)
+page-bad (suc c) l {o} {k} ne e h = rw (← e, lt-ltb 64 k h) (wrote-none o)
+
+-- A line, and then those of the entries that are left, in the rest of the output. The key that is lent is the k bytes from 3 on.
+pub page-some : (c : ℕ) (l : List ℕ) {o p q : List ℕ} {k v n m : ℕ} → (c ≡ 0 → ⊥) → k ≡ getD l 2 0 → k ≤ 64 → v ≡ valueAt l (k + 6) → Wrote (entryText (take (k + 3 - 3) (drop 3 l), v)) o p n
+    → Wrote (pageText (c - 1) (take (length l - (k + 10)) (drop (k + 10) l))) (take (length p - n) (drop n p)) q m → Wrote (pageText c l) o (putMid n (length p - n) p q) (n + m)
+unfolding pageText
+page-some zero l ne e h f w x = absurd (ne refl)
+page-some (suc c) l {k = k} ne e h f w x =
+    let a : k + 3 - 3 ≡ k = omega arith in
+    let b : suc c - 1 ≡ c = omega arith in
+    let t : take (length l - (k + 10)) (drop (k + 10) l) ≡ drop (k + 10) l = take-all (length l - (k + 10)) (drop (k + 10) l) (omega (arith, length-drop (k + 10) l)) in
+    wrote-as (wrote-rest w x) (rw (a, b, t, f, ← e, le-ltb 64 k h))
+
+pub page-room : (c : ℕ) (l : List ℕ) (k v : ℕ) {o p : List ℕ} {n : ℕ} → 141 * c ≤ length o → (c ≡ 0 → ⊥) → k ≤ 64 → Wrote (entryText (take (k + 3 - 3) (drop 3 l), v)) o p n
+    → 141 * (c - 1) ≤ length (take (length p - n) (drop n p))
+page-room c l k v room ne h w =
+    simp (length-take, length-drop) (omega (arith, w .count, w .size, entry-few (take (k + 3 - 3) (drop 3 l)) v, length-take (k + 3 - 3) (drop 3 l)))
