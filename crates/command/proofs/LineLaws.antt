@@ -1,7 +1,7 @@
 -- Laws of a page's lines.
 -- Assumes nothing.
 use Prim.Native.Nat.{ℕ, zero, suc, _+_, _*_, _-_, _≤_, _<_}
-use mathlib.Core.Path.{_≡_, refl}
+use mathlib.Core.Path.{_≡_, refl, _∙_}
 use mathlib.Core.List.{List}
 use native.Mathlib.Omega.{arith}
 use lib.ListN.{length, getD, take, drop, length-take, length-drop}
@@ -11,7 +11,7 @@ use borrow.Rule.Slice.PartMut.{putMid}
 use Rattle.command.specs.Answer.{entryText}
 use Rattle.command.specs.Code.{Wrote}
 use Rattle.command.proofs.WriteLaws.{wrote-none, wrote-as, wrote-rest, entry-few}
-use Rattle.command.specs.PageText.{valueAt, pageText}
+use Rattle.command.specs.PageText.{valueAt, pageText, lastAt}
 
 module _ (c : ℕ) (l : List ℕ) {o : List ℕ} where
   pub page-none : c ≡ 0 → Wrote (pageText c l) o o 0
@@ -38,3 +38,27 @@ pub page-room : (c : ℕ) (l : List ℕ) (k v : ℕ) {o p : List ℕ} {n : ℕ} 
     → 141 * (c - 1) ≤ length (take (length p - n) (drop n p))
 page-room c l k v room ne h w =
     simp (length-take, length-drop) (omega (arith, w .count, w .size, entry-few (take (k + 3 - 3) (drop 3 l)) v, length-take (k + 3 - 3) (drop 3 l)))
+
+-- ---- the last entry
+
+pub last-first : (c : ℕ) (l : List ℕ) → c < 2 → 0 ≡ lastAt c l
+unfolding lastAt
+last-first zero l h = refl
+last-first (suc zero) l h = refl
+last-first (suc (suc c)) l h = absurd (omega arith)
+
+pub last-bad : (c : ℕ) (l : List ℕ) (k : ℕ) → 2 ≤ c → k ≡ getD l 2 0 → 64 < k → 0 ≡ lastAt c l
+unfolding lastAt
+last-bad zero l k g e h = refl
+last-bad (suc zero) l k g e h = refl
+last-bad (suc (suc c)) l k g e h = rw (← e, lt-ltb 64 k h)
+
+pub last-next : (c : ℕ) (l : List ℕ) (k r : ℕ) → 2 ≤ c → k ≡ getD l 2 0 → k ≤ 64 → r ≡ lastAt (c - 1) (take (length l - (k + 10)) (drop (k + 10) l)) → k + 10 + r ≡ lastAt c l
+unfolding lastAt
+last-next zero l k r g e h q = absurd (omega arith)
+last-next (suc zero) l k r g e h q = absurd (omega arith)
+last-next (suc (suc c)) l k r g e h q =
+    let b : suc (suc c) - 1 ≡ suc c = omega arith in
+    let t : take (length l - (k + 10)) (drop (k + 10) l) ≡ drop (k + 10) l = take-all (length l - (k + 10)) (drop (k + 10) l) (omega (arith, length-drop (k + 10) l)) in
+    let z : r ≡ lastAt (suc c) (drop (k + 10) l) = q ∙ rw (b, t) in
+    rw (z, ← e, le-ltb 64 k h)

@@ -10,6 +10,7 @@ use borrow.Author.Tests.{le-ltb}
 use Rattle.model.specs.Key.{IsKey}
 use Rattle.model.specs.Map.{Entry, All}
 use Rattle.model.specs.Entry.{field, fourBytes, entryBytes, entriesBytes}
+use Rattle.fields.specs.Number.{value, bytesAt, big}
 use Rattle.command.specs.Answer.{entryText, entriesText}
 use Rattle.command.specs.PageText.{valueAt, pageText}
 
@@ -19,6 +20,15 @@ joined v a b c x y z e f g = omega arith
 
 value-back : (v : ℕ) → v / 16777216 * 16777216 + v / 65536 % 256 * 65536 + v / 256 % 256 * 256 + v % 256 ≡ v
 value-back v = joined v (v / 256) (v / 65536) (v / 16777216) (v % 256) (v / 256 % 256) (v / 65536 % 256) (omega arith) (omega arith) (omega arith)
+
+-- four bytes, high byte first, as a sum
+big-sum : (l : List ℕ) (at : ℕ) → big 4 l at ≡ getD l at 0 * 16777216 + getD l (at + 1) 0 * 65536 + getD l (at + 2) 0 * 256 + getD l (at + 3) 0
+unfolding big bytesAt value
+big-sum l at =
+    let a : suc at ≡ at + 1 = omega arith in
+    let b : suc (suc at) ≡ at + 2 = omega arith in
+    let c : suc (suc (suc at)) ≡ at + 3 = omega arith in
+    rw (c, b, a) (omega arith)
 
 -- Past three bytes and a key.
 module _ (x y z : ℕ) (k t : List ℕ) where
@@ -38,7 +48,8 @@ module _ (k : List ℕ) (v y : ℕ) (more : List ℕ) (c : ℕ) (fits : length k
 
   value-is : valueAt bytes (length k + 6) ≡ v
   value-is =
-      rw (
+      big-sum bytes (length k + 6)
+      ∙ rw (
         past-get 1 y (length k) k tail 3 (length k + 6) refl,
         past-get 1 y (length k) k tail 4 (length k + 6 + 1) (omega arith),
         past-get 1 y (length k) k tail 5 (length k + 6 + 2) (omega arith),

@@ -1,0 +1,56 @@
+// Listings: pages fetched one after the other, and their entries written as lines.
+use crate::writing::put_entry;
+use fields::big::read4;
+ghost use mathlib.Core.Path.{_≡_};
+ghost use Prim.Native.Nat.{_+_, _*_, _≤_, _<_};
+ghost use lib.ListN.{length};
+ghost use Rattle.command.specs.Code.{Wrote};
+ghost use Rattle.command.specs.PageText.{pageText, lastAt};
+
+// The longest entry of a page, and more than its longest line.
+const ENTRY_ROOM: usize = 74;
+
+const LINE_ROOM: usize = 141;
+
+fn size_of(x: u8) -> usize
+    ensures { λ r. ⌜ (r ≡ x) × (r < 256) ⌝ }
+{
+    x as usize
+}
+
+// The lines of the first `count` entries of a page, each written directly after the one before it.
+fn put_lines(count: usize, page: &[u8], out: &mut [u8]) -> usize
+    requires { ⌜ (74 * count ≤ length (now page)) × (141 * count ≤ length (now out)) ⌝ }
+    ensures { λ r. ⌜ Wrote (pageText count (now (page .entry))) (now (out .entry)) (now (out .exit)) r ⌝ }
+{
+    if count == 0 {
+        return 0;
+    }
+    let k = size_of(page[2]);
+    if 64 < k {
+        return 0;
+    }
+    let e = k + 3;
+    let v = read4(page, k + 6);
+    let n = put_entry(&page[3..e], v, out);
+    let rest = k + 10;
+    let m = put_lines(count - 1, &page[rest..], &mut out[n..]);
+    n + m
+}
+
+// Where the last of the first `count` entries of a page stands.
+fn last_entry(count: usize, page: &[u8]) -> usize
+    requires { ⌜ (1 ≤ count) × (74 * count ≤ length (now page)) ⌝ }
+    ensures is { λ r. ⌜ r ≡ lastAt count (now (page .entry)) ⌝ }
+    ensures within { λ r. ⌜ r + 74 ≤ 74 * count ⌝ }
+{
+    if count < 2 {
+        return 0;
+    }
+    let k = size_of(page[2]);
+    if 64 < k {
+        return 0;
+    }
+    let rest = k + 10;
+    rest + last_entry(count - 1, &page[rest..])
+}
