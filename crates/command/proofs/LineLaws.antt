@@ -1,17 +1,17 @@
 -- Laws of a page's lines.
 -- Assumes nothing.
 use Prim.Native.Nat.{ℕ, zero, suc, _+_, _*_, _-_, _≤_, _<_}
-use mathlib.Core.Path.{_≡_, refl, _∙_}
-use mathlib.Core.List.{List}
+use mathlib.Core.Path.{_≡_, refl, sym, ap, _∙_}
+use mathlib.Core.List.{List, _++_}
 use native.Mathlib.Omega.{arith}
-use lib.ListN.{length, getD, take, drop, length-take, length-drop}
-use lib.Seq.{take-all}
+use lib.ListN.{length, getD, take, drop, length-take, length-drop, length-append}
+use lib.Seq.{take-all, take-at}
 use borrow.Author.Tests.{lt-ltb, le-ltb}
 use borrow.Rule.Slice.PartMut.{putMid}
 use Rattle.command.specs.Answer.{entryText}
 use Rattle.command.specs.Code.{Wrote}
 use Rattle.command.proofs.WriteLaws.{wrote-none, wrote-as, wrote-rest, entry-few}
-use Rattle.command.specs.PageText.{valueAt, pageText, lastAt}
+use Rattle.command.specs.PageText.{valueAt, pageText, lastAt, keyAt, Kept}
 
 module _ (c : ℕ) (l : List ℕ) {o : List ℕ} where
   pub page-none : c ≡ 0 → Wrote (pageText c l) o o 0
@@ -62,3 +62,20 @@ last-next (suc (suc c)) l k r g e h q =
     let t : take (length l - (k + 10)) (drop (k + 10) l) ≡ drop (k + 10) l = take-all (length l - (k + 10)) (drop (k + 10) l) (omega (arith, length-drop (k + 10) l)) in
     let z : r ≡ lastAt (suc c) (drop (k + 10) l) = q ∙ rw (b, t) in
     rw (z, ← e, le-ltb 64 k h)
+
+-- ---- its key
+
+module _ (l : List ℕ) (at k : ℕ) (is : k ≡ getD l (at + 2) 0) (b : List ℕ) where
+  pub kept-none : 64 < k → Kept (keyAt l at) b b 0
+  kept-none h = record { is = sym (rw (← is, lt-ltb 64 k h)); size = refl; fits = omega arith }
+
+  pub kept-some : (p : List ℕ) → at + 74 ≤ length l → 64 ≤ length b → k ≤ 64 → p ≡ take (at + 3 + k - (at + 3)) (drop (at + 3) l) → Kept (keyAt l at) b (p ++ drop k b) k
+  kept-some p room big h e =
+      let z : at + 3 + k - (at + 3) ≡ k = omega arith in
+      let f : p ≡ take k (drop (at + 3) l) = e ∙ rw z in
+      let n : length p ≡ k = ap length f ∙ simp (length-take, length-drop) (omega arith) in
+      record {
+        is = take-at p (drop k b) k n ∙ f ∙ sym (rw (← is, le-ltb 64 k h));
+        size = length-append p (drop k b) ∙ simp length-drop (omega (arith, n));
+        fits = h;
+      }

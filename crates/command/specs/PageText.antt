@@ -1,8 +1,9 @@
 -- The lines of a page's entries, from the page's bytes, whatever they are.
 -- Assumes nothing.
-use Prim.Native.Nat.{ℕ, zero, suc, _+_}
+use Prim.Native.Nat.{ℕ, zero, suc, _+_, _≤_}
 use mathlib.Core.List.{List, [], _++_}
-use lib.ListN.{getD, take, drop}
+use mathlib.Core.Path.{_≡_}
+use lib.ListN.{length, getD, take, drop}
 use lib.Dec.{ltb}
 use Rattle.model.specs.Map.{pick}
 use Rattle.fields.specs.Number.{big}
@@ -22,3 +23,13 @@ unfoldable pub lastAt : ℕ → List ℕ → ℕ
 lastAt zero l = 0
 lastAt (suc zero) l = 0
 lastAt (suc (suc n)) l = pick (ltb 64 (getD l 2 0)) 0 (getD l 2 0 + 10 + lastAt (suc n) (drop (getD l 2 0 + 10) l))
+
+-- The key of the entry at a place.
+abbrev pub keyAt : List ℕ → ℕ → List ℕ
+keyAt l at = pick (ltb 64 (getD l (at + 2) 0)) [] (take (getD l (at + 2) 0) (drop (at + 3) l))
+
+-- A key that is kept stands at the start of its buffer.
+pub record Kept (key before buffer : List ℕ) (n : ℕ) : Type 0 where
+  pub is : take n buffer ≡ key
+  pub size : length buffer ≡ length before
+  pub fits : n ≤ 64

@@ -5,7 +5,7 @@ ghost use mathlib.Core.Path.{_≡_};
 ghost use Prim.Native.Nat.{_+_, _*_, _≤_, _<_};
 ghost use lib.ListN.{length};
 ghost use Rattle.command.specs.Code.{Wrote};
-ghost use Rattle.command.specs.PageText.{pageText, lastAt};
+ghost use Rattle.command.specs.PageText.{pageText, lastAt, keyAt, Kept};
 
 // The longest entry of a page, and more than its longest line.
 const ENTRY_ROOM: usize = 74;
@@ -53,4 +53,19 @@ fn last_entry(count: usize, page: &[u8]) -> usize
     }
     let rest = k + 10;
     rest + last_entry(count - 1, &page[rest..])
+}
+
+// The key of the entry at a place of a page goes to a buffer. The answer is its size.
+fn keep_key(page: &[u8], at: usize, key: &mut [u8]) -> usize
+    requires { ⌜ (at + 74 ≤ length (now page)) × (64 ≤ length (now key)) ⌝ }
+    ensures { λ r. ⌜ Kept (keyAt (now (page .entry)) at) (now (key .entry)) (now (key .exit)) r ⌝ }
+{
+    let k = size_of(page[at + 2]);
+    if 64 < k {
+        return 0;
+    }
+    let a = at + 3;
+    let e = a + k;
+    fields::copy(&mut key[..k], &page[a..e]);
+    k
 }
