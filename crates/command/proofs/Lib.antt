@@ -8,3 +8,4 @@ pub mod AnswerLaws
 pub mod LineLaws
 pub mod PageLines
 pub mod Listings
+pub mod ShowLaws

@@ -1,16 +1,19 @@
 // Listings: pages fetched one after the other, and their entries written as lines.
 use crate::writing::put_entry;
 use fields::big::read4;
+use index::pages::Paged;
 ghost use mathlib.Core.Path.{_≡_};
 ghost use Prim.Native.Nat.{_+_, _*_, _≤_, _<_};
 ghost use lib.ListN.{length};
 ghost use Rattle.command.specs.Code.{Wrote};
 ghost use Rattle.command.specs.PageText.{pageText, lastAt, keyAt, Kept};
+ghost use Rattle.command.specs.Listing.{WasShown};
 
-// The longest entry of a page, and more than its longest line.
-const ENTRY_ROOM: usize = 74;
-
+// More than the longest line of an entry.
 const LINE_ROOM: usize = 141;
+
+// The entries that a page is asked for.
+const PAGE: usize = 16;
 
 fn size_of(x: u8) -> usize
     ensures { λ r. ⌜ (r ≡ x) × (r < 256) ⌝ }
@@ -68,4 +71,65 @@ fn keep_key(page: &[u8], at: usize, key: &mut [u8]) -> usize
     let e = a + k;
     fields::copy(&mut key[..k], &page[a..e]);
     k
+}
+
+// What was shown of a page: the bytes of its lines, and, if there are more entries, the size of the last key, which is kept.
+pub struct Shown {
+    pub bytes: usize,
+    pub size: usize,
+    pub more: bool,
+}
+
+// The lines of a page, and its last key kept for the next one.
+fn show(paged: Paged, page: &[u8], key: &mut [u8], out: &mut [u8]) -> Shown
+    requires { ⌜ (1184 ≤ length (now page)) × (64 ≤ length (now key)) ⌝ }
+    ensures { λ r. ⌜ WasShown paged (now (page .entry)) (now (key .exit)) (now (out .entry)) (now (out .exit)) r ⌝ }
+{
+    let Paged::Done {
+        entries,
+        bytes: _,
+        end,
+    } = paged
+    else {
+        return Shown {
+            bytes: 0,
+            size: 0,
+            more: false,
+        };
+    };
+    if PAGE < entries {
+        return Shown {
+            bytes: 0,
+            size: 0,
+            more: false,
+        };
+    }
+    if out.len() < LINE_ROOM * entries {
+        return Shown {
+            bytes: 0,
+            size: 0,
+            more: false,
+        };
+    }
+    let n = put_lines(entries, page, out);
+    if end {
+        return Shown {
+            bytes: n,
+            size: 0,
+            more: false,
+        };
+    }
+    if entries == 0 {
+        return Shown {
+            bytes: n,
+            size: 0,
+            more: false,
+        };
+    }
+    let k = keep_key(page, last_entry(entries, page), key);
+    Shown {
+        bytes: n,
+        size: k,
+        more: true,
+    }
 }
