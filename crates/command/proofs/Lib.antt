@@ -9,3 +9,4 @@ pub mod LineLaws
 pub mod PageLines
 pub mod Listings
 pub mod ShowLaws
+pub mod RestLaws

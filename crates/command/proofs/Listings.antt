@@ -28,9 +28,13 @@ module _ (mode : Mode) (q : List ℕ) (from : From) (n : ℕ) (m : List Entry) w
   pub list-end : page mode q from n m .end ≡ true → entriesText (page mode q from n m .entries) ≡ entriesText left
   list-end h = ap entriesText (take-all n left (leb-true (length left) n h))
 
+  -- what is above the last key of a page that has n entries
+  pub list-on : Sorted m → (xs : List Entry) (e : Entry) → page mode q from n m .entries ≡ xs ++ (e ∷ []) → above (afterKey (e .0)) (under mode q m) ≡ drop n left
+  list-on s xs e h =
+      let whole : left ≡ xs ++ e ∷ drop n left = sym (take-append-drop n left) ∙ ap (λ (l : List Entry). l ++ drop n left) h ∙ append-snoc xs e (drop n left) in
+      next-page from (under mode q m) (keep-sorted (matches mode q) m s) xs e (drop n left) whole
+
   -- a page before it, whose last entry is e
   pub list-step : Sorted m → (xs : List Entry) (e : Entry) → page mode q from n m .entries ≡ xs ++ (e ∷ []) → entriesText (page mode q from n m .entries) ++ entriesText (above (afterKey (e .0)) (under mode q m)) ≡ entriesText left
   list-step s xs e h =
-      let whole : left ≡ xs ++ e ∷ drop n left = sym (take-append-drop n left) ∙ ap (λ (l : List Entry). l ++ drop n left) h ∙ append-snoc xs e (drop n left) in
-      let on : above (afterKey (e .0)) (under mode q m) ≡ drop n left = next-page from (under mode q m) (keep-sorted (matches mode q) m s) xs e (drop n left) whole in
-      ap (λ (l : List Entry). entriesText (take n left) ++ entriesText l) on ∙ sym (entries-append (take n left) (drop n left)) ∙ ap entriesText (take-append-drop n left)
+      ap (λ (l : List Entry). entriesText (take n left) ++ entriesText l) (list-on s xs e h) ∙ sym (entries-append (take n left) (drop n left)) ∙ ap entriesText (take-append-drop n left)

@@ -94,6 +94,7 @@ module _ (paged : Paged) (page key out : List ℕ) where
   not-shown : ((es : List Entry) (end : Bool) → IsPage paged page es end → 141 * length es ≤ length out → ⊥) → WasShown paged page key out out (shown 0 0 false)
   not-shown never = record {
     within = omega arith;
+    size = refl;
     fits = omega arith;
     lines = λ es end p h. absurd (never es end p h);
     last = λ es p h. refl;
@@ -129,6 +130,7 @@ module _ (paged : Paged) (page key out : List ℕ) where
       pub show-last : d ≡ true → WasShown paged page key out out′ (shown m 0 false)
       show-last e = record {
         within = w .within;
+        size = w .size;
         fits = omega arith;
         lines = λ es end p h. its-lines es end p;
         last = λ es p h. refl;
@@ -138,6 +140,7 @@ module _ (paged : Paged) (page key out : List ℕ) where
       pub show-none : n ≡ 0 → WasShown paged page key out out′ (shown m 0 false)
       show-none e = record {
         within = w .within;
+        size = w .size;
         fits = omega arith;
         lines = λ es end p h. its-lines es end p;
         last = λ es p h. refl;
@@ -147,6 +150,7 @@ module _ (paged : Paged) (page key out : List ℕ) where
       pub show-more : (t : ℕ) (key₀ : List ℕ) (size : ℕ) → d ≡ false → t ≡ lastAt n page → Kept (keyAt page t) key₀ key size → WasShown paged page key out out′ (shown m size true)
       show-more t key₀ size e at k = record {
         within = w .within;
+        size = w .size;
         fits = k .fits;
         lines = λ es end p h. its-lines es end p;
         last = λ es p h. absurd (true≢false (sym (sym e ∙ end-is es true p)));

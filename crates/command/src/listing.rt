@@ -1,13 +1,16 @@
 // Listings: pages fetched one after the other, and their entries written as lines.
 use crate::writing::put_entry;
 use fields::big::read4;
+use index::pages::Mode;
 use index::pages::Paged;
+use index::pages::next_page;
 ghost use mathlib.Core.Path.{_≡_};
 ghost use Prim.Native.Nat.{_+_, _*_, _≤_, _<_};
-ghost use lib.ListN.{length};
+ghost use lib.ListN.{length, take};
+ghost use Rattle.model.specs.Page.{afterKey};
 ghost use Rattle.command.specs.Code.{Wrote};
 ghost use Rattle.command.specs.PageText.{pageText, lastAt, keyAt, Kept};
-ghost use Rattle.command.specs.Listing.{WasShown};
+ghost use Rattle.command.specs.Listing.{outputRoom, WasShown, IsListed};
 
 // More than the longest line of an entry.
 const LINE_ROOM: usize = 141;
@@ -132,4 +135,32 @@ fn show(paged: Paged, page: &[u8], key: &mut [u8], out: &mut [u8]) -> Shown
         size: k,
         more: true,
     }
+}
+
+// The entries past the key that is kept, page by page. A page before the last one has PAGE entries, so there are at most `turns` pages.
+fn list_rest(
+    store: &[u8],
+    prefix: &[u8],
+    mode: Mode,
+    turns: usize,
+    size: usize,
+    key: &mut [u8],
+    page: &mut [u8],
+    out: &mut [u8],
+) -> usize
+    requires { ⌜ (size ≤ 64) × (64 ≤ length (now key)) × (1184 ≤ length (now page)) × (length (now out) ≤ outputRoom) ⌝ }
+    ensures { λ r. ⌜ IsListed (now (prefix .entry)) mode (afterKey (take size (now (key .entry)))) turns (now (store .entry)) (now (out .entry)) (now (out .exit)) r ⌝ }
+{
+    if turns == 0 {
+        return 0;
+    }
+    let paged = next_page(store, prefix, mode, &key[..size], PAGE as u32, page);
+    let s = show(paged, page, key, out);
+    let n = s.bytes;
+    if s.more {
+        let k = s.size;
+        let m = list_rest(store, prefix, mode, turns - 1, k, key, page, &mut out[n..]);
+        return n + m;
+    }
+    n
 }
