@@ -1,0 +1,12 @@
+pub mod ReadLaws
+pub mod ParseLaws
+pub mod WriteLaws
+pub mod PieceLaws
+pub mod CasesHold
+pub mod RoundTrip
+pub mod AnswerLaws
+pub mod LineLaws
+pub mod PageLines
+pub mod Listings
+pub mod ShowLaws
+pub mod RestLaws
