@@ -7,7 +7,6 @@ ghost use Rattle.command.specs.Text.{digitText, keyText, digitsText, num
 ghost use Rattle.command.specs.Answer.{answerText, entryText};
 ghost use Rattle.command.specs.Code.{Wrote};
 
-
 fn digit_text(d: u8) -> u8
     requires { ⌜ d < 16 ⌝ }
     ensures { λ r. ⌜ r ≡ digitText d ⌝ }

@@ -80,8 +80,7 @@ list-rest-list-rest-requires t c κs =
     let asked = turn .before .before .before .before .before .before .pre in
     let pre = asked .1 in
     let kept = shown .show .kept in
-    let fetch = fetched .next-page .kept in
-    (
+    let fetch = fetched .next-page .kept in (
       search (asked .0, turn .if1 .left, needs),
       (shown .show .ensures .fits, search (pre, kept, fetch, needs), search (pre, kept, fetch, needs), simp (length-take, length-drop) (search (pre, kept, fetch, needs))),
     )
