@@ -11,4 +11,4 @@ use Rattle.model.specs.Key.{order}
 
 pub cases-hold : AllRun cases
 unfolding digit pairs keyOf decimals numberOf digitText pairsText keyText digitsText numberText firstSpace insertLine byLetter shortLine lineOf wordOf entriesText answerCommand answerLine linesFrom answers nibble order critical
-cases-hold = (refl, (refl, (refl, (refl, (refl, (refl, (refl, tt)))))))
+cases-hold = (refl, (refl, (refl, tt)))

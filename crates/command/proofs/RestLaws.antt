@@ -24,8 +24,7 @@ use Rattle.promises.specs.Says.{Asked, fromTooLong, pageOf, pageGiven, pageSays
 use Rattle.promises.specs.Promises.{Pages, NextPage, FirstPage}
 use Rattle.promises.proofs.EntryOne.{page-keys}
 use Rattle.index.specs.Layout.{layout}
-use Rattle.index.specs.Pages.{modeOf}
-use Rattle.index.specs.Replies.{pageReply}
+use Rattle.index.specs.Replies.{modeOf, pageReply}
 use Rattle.index.specs.declared.pages.Mode.{Mode}
 use Rattle.index.specs.declared.pages.Paged.{Paged}
 use Rattle.index.proofs.WayLaws.{not-too-long}

@@ -11,7 +11,7 @@ use Rattle.model.specs.Page.{From, under, above}
 use Rattle.model.specs.Entry.{entriesBytes}
 use Rattle.promises.specs.Meaning.{Meaning, Means}
 use Rattle.index.specs.Layout.{layout}
-use Rattle.index.specs.Pages.{modeOf}
+use Rattle.index.specs.Replies.{modeOf}
 use Rattle.index.specs.declared.pages.Mode.{Mode}
 use Rattle.index.specs.declared.pages.Paged.{Paged}
 use Rattle.command.specs.Answer.{entriesText}
