@@ -42,17 +42,19 @@ module _ (L : Layout) (k : List ℕ) {st out out′ : List ℕ} {a : Answer} {n 
   pub insert-answered : (v : ℕ) {st′ : List ℕ} (q : Inserted) → Insert L k v st st′ (insertReply q) → a ≡ insertTold q → Answered L (command (insert k v)) st st′ out out′ n
   unfolding answerLine answerCommand
   insert-answered v q p e = record {
+    within = w .within;
     wrote = λ m h. told-as w (e ∙ insert-told q ∙ ap (λ (r : Reply). insertAnswer (r .answer)) (p .answers m h));
     after = λ m h. p .after m h;
   }
 
   pub get-answered : (q : Got) → Get L k st (getReply q) → a ≡ getTold q → Answered L (command (get k)) st st out out′ n
   unfolding answerLine answerCommand
-  get-answered q p e = record { wrote = λ m h. told-as w (e ∙ get-told q ∙ ap getAnswer (p .answers m h)); after = λ m h. h }
+  get-answered q p e = record { within = w .within; wrote = λ m h. told-as w (e ∙ get-told q ∙ ap getAnswer (p .answers m h)); after = λ m h. h }
 
   pub delete-answered : {st′ : List ℕ} (q : Changed) → Remove L k st st′ (changedReply q) → a ≡ removeTold q → Answered L (command (delete k)) st st′ out out′ n
   unfolding answerLine answerCommand
   delete-answered q p e = record {
+    within = w .within;
     wrote = λ m h. told-as w (e ∙ remove-told q ∙ ap (λ (r : Reply). removeAnswer (r .answer)) (p .answers m h));
     after = λ m h. p .after m h;
   }

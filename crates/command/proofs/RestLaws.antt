@@ -173,3 +173,14 @@ pub list-sum : (p : Paged) (page key out out′ : List ℕ) {s : Shown} → WasS
 list-sum p page key out out′ {s} shown q mode from turns st out₂ n more h =
     let lent : length (take (length out′ - s .bytes) (drop (s .bytes) out′)) ≡ length out′ - s .bytes = simp (length-take, length-drop) (omega arith) in
     record { fits = omega (arith, shown .within, shown .size, more .within, lent) }
+
+-- ---- from the start, where 32 pages hold it
+
+module _ (q : List ℕ) (mode : Mode) (st : List ℕ) (page page′ : List ℕ) (p : Paged) (promise : FirstPage layout q (modeOf mode) 16 st page page′ (pageReply p)) (big : 1184 ≤ length page)
+    (key out out′ : List ℕ) (s : Shown) (shown : WasShown p page′ key out out′ s) where
+  pub all-last : s .more ≡ false → IsListed q mode start 32 st out out′ (s .bytes)
+  all-last f = rest-last q mode st start 32 page page′ p promise big refl key out out′ s shown f
+
+  pub all-more : s .more ≡ true → (out₂ : List ℕ) (n : ℕ) → IsListed q mode (afterKey (take (s .size) key)) 31 st (take (length out′ - s .bytes) (drop (s .bytes) out′)) out₂ n
+      → IsListed q mode start 32 st out (putMid (s .bytes) (length out′ - s .bytes) out′ out₂) (s .bytes + n)
+  all-more f out₂ n more = rest-more q mode st start 32 page page′ p promise big refl key out out′ s shown f (λ e. omega (arith, e)) out₂ n more

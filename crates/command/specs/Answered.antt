@@ -1,7 +1,8 @@
 -- The promise of an answered line: on an accepted store, the exact bytes and the map after it.
 -- Assumes nothing.
-use Prim.Native.Nat.{ℕ}
+use Prim.Native.Nat.{ℕ, _≤_}
 use mathlib.Core.List.{List}
+use lib.ListN.{length}
 use Rattle.promises.specs.Meaning.{Layout, Meaning, Means}
 use Rattle.command.specs.Line.{Line}
 use Rattle.command.specs.Answer.{answerLine}
@@ -33,5 +34,6 @@ removeTold Changed.Absent = Answer.Absent
 
 -- `st` and `st′` are the store's bytes before and after, `out` and `out′` the output's, n the number of bytes written.
 pub record Answered (L : Layout) (line : Line) (st st′ out out′ : List ℕ) (n : ℕ) : Type 0 where
+  pub within : n ≤ length out
   pub wrote : (m : Meaning) → Means L st m → Wrote (answerLine line m .bytes) out out′ n
   pub after : (m : Meaning) → Means L st m → Means L st′ (answerLine line m .after)

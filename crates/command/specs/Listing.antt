@@ -22,9 +22,13 @@ use Rattle.command.specs.declared.listing.Shown.{Shown}
 abbrev pub pageSize : ℕ
 pageSize = 16
 
--- The longest answer: 511 lines of a listing, and `end`.
+-- Room for the lines of the longest listing.
+abbrev pub linesRoom : ℕ
+linesRoom = 141 * 511
+
+-- The longest answer: a listing, and `end`.
 abbrev pub outputRoom : ℕ
-outputRoom = 141 * 511 + 11
+outputRoom = linesRoom + 11
 
 -- The answer and the bytes of a page are those of these entries.
 pub record IsPage (paged : Paged) (page : List ℕ) (es : List Entry) (end : Bool) : Type 0 where

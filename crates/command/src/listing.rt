@@ -1,19 +1,29 @@
 // Listings: pages fetched one after the other, and their entries written as lines.
+use crate::writing::Answer;
+use crate::writing::put_answer;
 use crate::writing::put_entry;
 use fields::big::read4;
 use index::pages::Mode;
 use index::pages::Paged;
+use index::pages::first_page;
 use index::pages::next_page;
 ghost use mathlib.Core.Path.{_≡_};
 ghost use Prim.Native.Nat.{_+_, _*_, _≤_, _<_};
 ghost use lib.ListN.{length, take};
-ghost use Rattle.model.specs.Page.{afterKey};
+ghost use Rattle.model.specs.Page.{start, afterKey};
+ghost use Rattle.index.specs.Layout.{layout};
+ghost use Rattle.index.specs.Replies.{modeOf};
+ghost use Rattle.command.specs.Line;
+ghost use Rattle.command.specs.Answered.{Answered};
 ghost use Rattle.command.specs.Code.{Wrote};
 ghost use Rattle.command.specs.PageText.{pageText, lastAt, keyAt, Kept};
 ghost use Rattle.command.specs.Listing.{outputRoom, WasShown, IsListed};
 
 // More than the longest line of an entry.
 const LINE_ROOM: usize = 141;
+
+// The lines of the longest listing.
+const LINES_ROOM: usize = 141 * 511;
 
 // The entries that a page is asked for.
 const PAGE: usize = 16;
@@ -163,4 +173,34 @@ fn list_rest(
         return n + m;
     }
     n
+}
+
+// All pages, which are at most 32: a store has 511 keys at most.
+fn list_all(store: &[u8], prefix: &[u8], mode: Mode, out: &mut [u8]) -> usize
+    requires { ⌜ length (now out) ≤ outputRoom ⌝ }
+    ensures { λ r. ⌜ IsListed (now (prefix .entry)) mode start 32 (now (store .entry)) (now (out .entry)) (now (out .exit)) r ⌝ }
+{
+    let mut page_space = [0u8; 1184];
+    let page: &mut [u8] = &mut page_space;
+    let mut key_space = [0u8; 64];
+    let key: &mut [u8] = &mut key_space;
+    let paged = first_page(store, prefix, mode, PAGE as u32, page);
+    let s = show(paged, page, key, out);
+    let n = s.bytes;
+    if s.more {
+        let k = s.size;
+        let m = list_rest(store, prefix, mode, 31, k, key, page, &mut out[n..]);
+        return n + m;
+    }
+    n
+}
+
+// A listing and its `end`.
+pub fn answer_list(store: &[u8], prefix: &[u8], mode: Mode, out: &mut [u8]) -> usize
+    requires { ⌜ (length (now store) ≤ 65536) × (length (now prefix) ≤ 64) × (length (now out) ≡ outputRoom) ⌝ }
+    ensures { λ r. ⌜ Answered layout (Line.command (Line.list (modeOf mode) (now (prefix .entry)))) (now (store .entry)) (now (store .entry)) (now (out .entry)) (now (out .exit)) r ⌝ }
+{
+    let n = list_all(store, prefix, mode, &mut out[..LINES_ROOM]);
+    let m = put_answer(Answer::End, &mut out[n..]);
+    n + m
 }
