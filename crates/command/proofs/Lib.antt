@@ -11,3 +11,4 @@ pub mod Listings
 pub mod ListedLaws
 pub mod ShowLaws
 pub mod RestLaws
+pub mod TurnLaws

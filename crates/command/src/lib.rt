@@ -3,4 +3,5 @@ pub mod answer;
 pub mod listing;
 pub mod pieces;
 pub mod reading;
+pub mod turns;
 pub mod writing;
