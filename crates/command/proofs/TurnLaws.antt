@@ -12,15 +12,16 @@ use Rattle.index.specs.Layout.{layout}
 use Rattle.command.specs.Line.{Line}
 use Rattle.command.specs.Answer.{answerText, answerLine}
 use Rattle.command.specs.Answered.{Answered}
-use Rattle.command.specs.Run.{heldLine, takeLine, finish}
+use Rattle.command.specs.Run.{heldLine, takeLine, wrote, feed, finish}
 use Rattle.command.specs.Run as run
 use Rattle.command.specs.Code.{lineIn, parsedSize, LineIs, Wrote, heldIn, takenIn, takenSize, takenMoves, takenHeld, TakenIs}
-use Rattle.command.specs.Turned.{gave, Turned, Finished}
+use Rattle.command.specs.Turned.{gave, turnOf, Turned, Finished}
 use Rattle.command.specs.declared.reading.Parsed.{Parsed}
 use Rattle.command.specs.declared.writing.Answer.the-variants.{Bad, Key}
 use Rattle.command.specs.declared.pieces.Held.{Held}
 use Rattle.command.specs.declared.pieces.Taken.{Taken}
 use Rattle.command.proofs.WriteLaws.{wrote-none, wrote-as}
+use Rattle.command.proofs.PieceLaws.{feed-more, feed-ended}
 
 -- ---- a line that was read
 
@@ -113,3 +114,12 @@ module _ (h : Option (List ℕ)) (piece before line : List ℕ) (r : Taken) (tak
           wrote = λ m w. wrote-as (a .wrote m w) (ap (λ (t : run.Taken). gave t m .bytes) is);
           after = λ m w. subst (λ (t : run.Taken). Means layout st′ (gave t m .after)) is (a .after m w);
         }
+
+-- Turn by turn, a piece is fed.
+pub turn-feeds : (h : Option (List ℕ)) (piece : List ℕ) (m : Meaning) → feed h m piece ≡ (let t = turnOf h piece m in wrote (t .bytes) (feed (t .held) (t .after) (t .rest)))
+unfolding feed
+turn-feeds h piece m = go (takeLine h piece) refl
+  where
+    go : (t : run.Taken) → takeLine h piece ≡ t → feed h m piece ≡ (let g = gave t m in wrote (g .bytes) (feed (g .held) (g .after) (g .rest)))
+    go (run.more g) e = feed-more h m piece e
+    go (run.ended g rest) e = feed-ended h m piece e
