@@ -168,8 +168,12 @@ fn main() {
     );
 }
 
-// A sample for the program's stdin and stdout files: answers by the model, and the Rust original agrees.
+// A sample for the program's stdin and stdout files: the model's answers, with which the Rust original and replay agree.
 fn recorded(replay: &Replay, rng: &mut Rng, to: &str) {
+    if !original::PRESENT {
+        eprintln!("oracle: no sample is recorded without the Rust original");
+        std::process::exit(1);
+    }
     let mut calls = vec![];
     let mut wanted = vec![];
     let mut model = model::Model::default();
@@ -193,5 +197,5 @@ fn recorded(replay: &Replay, rng: &mut Rng, to: &str) {
     let folder = std::path::Path::new(to);
     std::fs::write(folder.join("stdin"), script::encode(&calls)).unwrap();
     std::fs::write(folder.join("stdout"), &wanted).unwrap();
-    println!("oracle: recorded {} calls in {} + {} bytes, the Rust original {}", made(&calls), script::encode(&calls).len(), wanted.len(), if original::PRESENT { "compared" } else { "NOT compared" });
+    println!("oracle: recorded {} calls in {} + {} bytes", made(&calls), script::encode(&calls).len(), wanted.len());
 }
