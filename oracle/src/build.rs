@@ -17,11 +17,26 @@ pub enum Flaw {
     // a chain of free records that is too short, or ends in a circle
     Short,
     Circle,
+    // a key of 65 bytes
+    Size,
+    // bits of a bitmap past the 17 slots, which count for nothing
+    Bits,
     // a number of the header that is one more or one less
     Count,
 }
 
-const FLAWS: [Flaw; 8] = [Flaw::Nothing, Flaw::OneChild, Flaw::Slot, Flaw::Position, Flaw::Twice, Flaw::Short, Flaw::Circle, Flaw::Count];
+const FLAWS: [Flaw; 10] = [
+    Flaw::Nothing,
+    Flaw::OneChild,
+    Flaw::Slot,
+    Flaw::Position,
+    Flaw::Twice,
+    Flaw::Short,
+    Flaw::Circle,
+    Flaw::Size,
+    Flaw::Bits,
+    Flaw::Count,
+];
 
 struct Build {
     s: Vec<u8>,
@@ -50,7 +65,11 @@ impl Build {
 
     // The link to the picture of some sorted keys that agree before position `low`.
     fn node(&mut self, rng: &mut Rng, keys: &[Key], low: usize) -> [u8; 3] {
-        let top = if keys.len() == 1 { 2 * keys[0].len() + 1 } else { critical(&keys[0], &keys[keys.len() - 1]) };
+        let top = if keys.len() == 1 {
+            2 * keys[0].len() + 1
+        } else {
+            critical(&keys[0], &keys[keys.len() - 1])
+        };
         if self.flaw == Flaw::OneChild && low < top && rng.chance(40) {
             self.flaw = Flaw::Nothing;
             let q = low + rng.below(top - low);
@@ -87,12 +106,20 @@ impl Build {
     fn chain(&mut self, rng: &mut Rng, mut free: Vec<usize>, leaf: bool) -> usize {
         for n in &free {
             let at = 128 + 128 * n;
-            if leaf { self.s[at + 119] = 255 } else { self.s[at + 64..at + 68].fill(0) }
+            if leaf {
+                self.s[at + 119] = 255
+            } else {
+                self.s[at + 64..at + 68].fill(0)
+            }
         }
         if self.flaw == Flaw::Short && rng.chance(50) {
             free.pop();
         }
-        let end = if self.flaw == Flaw::Circle && !free.is_empty() { *rng.pick(&free) } else { 65535 };
+        let end = if self.flaw == Flaw::Circle && !free.is_empty() {
+            *rng.pick(&free)
+        } else {
+            65535
+        };
         for (i, n) in free.iter().enumerate() {
             let next = *free.get(i + 1).unwrap_or(&end);
             self.put2(128 + 128 * n + if leaf { 120 } else { 68 }, next);
@@ -114,7 +141,12 @@ pub fn built(rng: &mut Rng, keys: &[Key]) -> Vec<u8> {
     let mut branches = leaves.clone();
     rng.shuffle(&mut leaves);
     rng.shuffle(&mut branches);
-    let mut b = Build { s: vec![0xA5; 128 * (capacity + 1) + rng.below(128)], leaves, branches, flaw };
+    let mut b = Build {
+        s: vec![0xA5; 128 * (capacity + 1) + rng.below(128)],
+        leaves,
+        branches,
+        flaw,
+    };
     b.s[..4].copy_from_slice(b"PQP1");
     let root = if keys.is_empty() { [255, 255, 0] } else { b.node(rng, &keys, 0) };
     b.flaw = flaw;
@@ -128,6 +160,14 @@ pub fn built(rng: &mut Rng, keys: &[Key]) -> Vec<u8> {
     b.put2(15, first);
     let first = b.chain(rng, free_branches, false);
     b.put2(17, first);
+    let record = 128 + 128 * rng.below(capacity);
+    if flaw == Flaw::Size && b.s[record + 119] != 255 {
+        b.s[record + 119] = 65;
+    }
+    if flaw == Flaw::Bits {
+        let bit = 17 + rng.below(15);
+        b.s[record + 64 + bit / 8] |= 1 << (bit % 8);
+    }
     if flaw == Flaw::Count {
         let at = *rng.pick(&[8, 10]);
         b.s[at] = if rng.chance(50) { b.s[at] + 1 } else { b.s[at].saturating_sub(1) };

@@ -63,7 +63,11 @@ impl Walk<'_> {
         }
         let first: &Key = all.first()?;
         let agree = all.iter().all(|k| (0..position).all(|p| nibble(k, p) == nibble(first, p)));
-        if place < 2 || !agree { None } else { Some(all) }
+        if place < 2 || !agree {
+            None
+        } else {
+            Some(all)
+        }
     }
 }
 
@@ -90,7 +94,13 @@ pub fn accepted(s: &[u8]) -> Option<(u16, BTreeMap<Key, u32>)> {
     }
     let capacity = capacity(s.len());
     let (leaves, branches) = (two(s, 8), two(s, 10));
-    let mut w = Walk { s, capacity, leaves: BTreeSet::new(), branches: BTreeSet::new(), map: BTreeMap::new() };
+    let mut w = Walk {
+        s,
+        capacity,
+        leaves: BTreeSet::new(),
+        branches: BTreeSet::new(),
+        map: BTreeMap::new(),
+    };
     if leaves == 0 {
         if three(s, 12) != 65535 {
             return None;
@@ -101,10 +111,20 @@ pub fn accepted(s: &[u8]) -> Option<(u16, BTreeMap<Key, u32>)> {
     if w.leaves.len() != leaves || w.branches.len() != branches || w.map.len() != leaves {
         return None;
     }
-    let leaf = |n: usize| if s[128 + 128 * n + 119] == 255 { Some(two(s, 128 + 128 * n + 120)) } else { None };
+    let leaf = |n: usize| {
+        if s[128 + 128 * n + 119] == 255 {
+            Some(two(s, 128 + 128 * n + 120))
+        } else {
+            None
+        }
+    };
     let branch = |n: usize| {
         let at = 128 + 128 * n + 64;
-        if three(s, at) % (1 << 17) == 0 { Some(two(s, at + 4)) } else { None }
+        if three(s, at) % (1 << 17) == 0 {
+            Some(two(s, at + 4))
+        } else {
+            None
+        }
     };
     if chain(two(s, 15), capacity, &w.leaves, leaf) && chain(two(s, 17), capacity, &w.branches, branch) {
         Some((two(s, 6) as u16, w.map))

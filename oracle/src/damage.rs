@@ -3,6 +3,7 @@
 use crate::build::built;
 use crate::checker::accepted;
 use crate::model::{capacity, Model, Store, KEY, STORE};
+use crate::replay::Replay;
 use crate::rng::Rng;
 use crate::script::{dumps, hash, load, split, Call, Key, Page};
 use crate::sequences::Difference;
@@ -16,7 +17,22 @@ fn put2(s: &mut [u8], at: usize, v: usize) {
 
 fn odd_number(rng: &mut Rng, capacity: usize) -> usize {
     let near = rng.below(capacity + 2);
-    *rng.pick(&[near, near, near, capacity, capacity + 1, 0, 1, 255, 16383, 16384, 16384 + near, 32768, 65534, 65535])
+    *rng.pick(&[
+        near,
+        near,
+        near,
+        capacity,
+        capacity + 1,
+        0,
+        1,
+        255,
+        16383,
+        16384,
+        16384 + near,
+        32768,
+        65534,
+        65535,
+    ])
 }
 
 // One kind of damage.
@@ -115,8 +131,17 @@ pub fn damaged(rng: &mut Rng, good: &[u8], keys: &[Key]) -> (Vec<u8>, Vec<Call>)
         calls.push(Call::Get(any_key(rng, keys)));
         let n = 1 + rng.below(5) as u32;
         let prefix = if rng.chance(60) { vec![] } else { any_key(rng, keys) };
-        let page = Page { inclusive: rng.chance(50), n, room: 74 * n as usize, prefix };
-        calls.push(if rng.chance(50) { Call::First(page) } else { Call::Next(page, any_key(rng, keys)) });
+        let page = Page {
+            inclusive: rng.chance(50),
+            n,
+            room: 74 * n as usize,
+            prefix,
+        };
+        calls.push(if rng.chance(50) {
+            Call::First(page)
+        } else {
+            Call::Next(page, any_key(rng, keys))
+        });
     }
     calls.push(Call::Hash);
     for _ in 0..6 {
@@ -146,7 +171,14 @@ fn header_right(s: &[u8]) -> bool {
 
 fn model_of(s: &[u8]) -> Option<Model> {
     let (limit, map) = accepted(s)?;
-    Some(Model { len: s.len(), store: Some(Store { capacity: capacity(s.len()), limit, map }) })
+    Some(Model {
+        len: s.len(),
+        store: Some(Store {
+            capacity: capacity(s.len()),
+            limit,
+            map,
+        }),
+    })
 }
 
 // Compares what replay answered on one damaged store.
@@ -209,14 +241,23 @@ pub fn compare(bytes: &[u8], calls: &[Call], out: &[u8]) -> Option<Difference> {
                     if right && long && number != KEY {
                         return Some((i, format!("a key that is too long, and the answer is {number}")));
                     }
-                    if number >= 10 && answer[1..].iter().rev().skip(matches!(call, Call::First(_) | Call::Next(..)) as usize).any(|b| *b != 0) {
+                    if number >= 10
+                        && answer[1..]
+                            .iter()
+                            .rev()
+                            .skip(matches!(call, Call::First(_) | Call::Next(..)) as usize)
+                            .any(|b| *b != 0)
+                    {
                         return Some((i, "a refusal with a value beside it".into()));
                     }
                 }
                 if matches!(call, Call::First(_) | Call::Next(..)) && answer.last() != Some(&1) {
                     return Some((i, "output past the page was written".into()));
                 }
-                if matches!(call, Call::Insert(..) | Call::Overwrite(..) | Call::Remove(_) | Call::Limit(_) | Call::Create(_)) {
+                if matches!(
+                    call,
+                    Call::Insert(..) | Call::Overwrite(..) | Call::Remove(_) | Call::Limit(_) | Call::Create(_)
+                ) {
                     changing = Some(number);
                     if matches!(call, Call::Create(_)) && number == 0 {
                         model = None;
@@ -240,4 +281,29 @@ pub fn compare(bytes: &[u8], calls: &[Call], out: &[u8]) -> Option<Difference> {
         }
     }
     None
+}
+
+// Fewer calls on the same bytes that still show a difference. A call that changes the store goes with the check, the hash and the dump behind it.
+pub fn shorten(replay: &Replay, bytes: &[u8], calls: &[Call]) -> Vec<Call> {
+    let differs = |calls: &[Call]| match replay.run(calls) {
+        Err(_) => true,
+        Ok(out) => compare(bytes, calls, &out).is_some(),
+    };
+    let mut groups: Vec<Vec<Call>> = vec![];
+    for call in calls {
+        let tail = matches!(call, Call::Write(..) | Call::Check | Call::Hash | Call::Dump(..));
+        match groups.last_mut() {
+            Some(g) if tail => g.push(call.clone()),
+            _ => groups.push(vec![call.clone()]),
+        }
+    }
+    let mut at = groups.len();
+    while at > 1 {
+        at -= 1;
+        let out = groups.remove(at);
+        if !differs(&groups.concat()) {
+            groups.insert(at, out);
+        }
+    }
+    groups.concat()
 }

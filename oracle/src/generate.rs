@@ -147,7 +147,12 @@ fn any_page(rng: &mut Rng, prefix: Key) -> Page {
     let n = *rng.pick(&[0, 1, 1, 2, 3, 4, 7, 16, 255, 256, 257, 65536, u32::MAX]);
     let need = 74 * (n as usize).min(300);
     let room = *rng.pick(&[need, need, need + 1, need.saturating_sub(1), 0, 32768]);
-    Page { inclusive: rng.chance(50), n, room, prefix }
+    Page {
+        inclusive: rng.chance(50),
+        n,
+        room,
+        prefix,
+    }
 }
 
 fn one(rng: &mut Rng, keys: &[Key], fill: usize) -> Call {
@@ -170,10 +175,19 @@ fn one(rng: &mut Rng, keys: &[Key], fill: usize) -> Call {
 
 // A store from its creation on: fills, changes and removals in some order, listings with many page sizes.
 pub fn sequence(rng: &mut Rng, capacity: usize, turns: usize) -> Sequence {
-    let mut s = Sequence { calls: vec![], listings: 0, model: Model::default(), small: capacity <= 40 };
+    let mut s = Sequence {
+        calls: vec![],
+        listings: 0,
+        model: Model::default(),
+        small: capacity <= 40,
+    };
     let slack = if rng.chance(50) { 0 } else { rng.below(128) };
     s.push(Call::Space(if rng.chance(2) { rng.below(256) } else { 128 * (capacity + 1) + slack }));
-    let mut keys = if capacity >= 130 && rng.chance(60) { comb(rng) } else { pool(rng, (3 * capacity / 2 + 6).min(900)) };
+    let mut keys = if capacity >= 130 && rng.chance(60) {
+        comb(rng)
+    } else {
+        pool(rng, (3 * capacity / 2 + 6).min(900))
+    };
     if rng.chance(5) {
         let call = one(rng, &keys, 40);
         s.watched(rng, call);
@@ -222,11 +236,18 @@ pub fn sequence(rng: &mut Rng, capacity: usize, turns: usize) -> Sequence {
 
 // A store of the largest capacity, filled to the end and emptied.
 pub fn largest(rng: &mut Rng) -> Sequence {
-    let mut s = Sequence { calls: vec![], listings: 0, model: Model::default(), small: false };
+    let mut s = Sequence {
+        calls: vec![],
+        listings: 0,
+        model: Model::default(),
+        small: false,
+    };
     let slack = rng.below(384);
     s.push(Call::Space(128 * 16385 + slack));
     s.push(Call::Create(128));
-    let mut keys: Vec<Key> = (0..16384 + 20u32).map(|i| i.wrapping_mul(2654435761).to_be_bytes()[..2 + (i % 3) as usize].to_vec()).collect();
+    let mut keys: Vec<Key> = (0..16384 + 20u32)
+        .map(|i| i.wrapping_mul(2654435761).to_be_bytes()[..2 + (i % 3) as usize].to_vec())
+        .collect();
     for k in &mut keys {
         if rng.chance(3) {
             k.resize(64, 7);

@@ -32,7 +32,10 @@ fn pages(calls: &[Call]) -> usize {
 }
 
 fn made(calls: &[Call]) -> usize {
-    calls.iter().filter(|c| !matches!(c, Call::Space(_) | Call::Write(..) | Call::Hash | Call::Dump(..))).count()
+    calls
+        .iter()
+        .filter(|c| !matches!(c, Call::Space(_) | Call::Write(..) | Call::Hash | Call::Dump(..)))
+        .count()
 }
 
 fn fail(what: &str, calls: &[Call], why: &str) -> ! {
@@ -53,7 +56,14 @@ fn batch(replay: &Replay, count: &mut Count, sequences: &[Sequence]) {
     };
     if let Some((at, why)) = difference {
         let start = calls[..=at].iter().rposition(|c| matches!(c, Call::Space(_))).unwrap_or(0);
-        let from = if replay.run(&calls[start..=at]).is_ok_and(|out| sequences::compare(&calls[start..=at], &out).is_none()) { 0 } else { start };
+        let from = if replay
+            .run(&calls[start..=at])
+            .is_ok_and(|out| sequences::compare(&calls[start..=at], &out).is_none())
+        {
+            0
+        } else {
+            start
+        };
         let short = sequences::shorten(replay, &calls[from..=at]);
         let again = replay.run(&short).ok().and_then(|out| sequences::compare(&short, &out)).map_or(why, |d| d.1);
         fail("replay and document 01", &short, &again);
@@ -82,7 +92,11 @@ fn good(replay: &Replay, rng: &mut Rng, n: usize) -> Vec<(Vec<u8>, Vec<Key>)> {
         let cut = s.iter().position(|c| matches!(c, Call::Create(_))).unwrap() + 1;
         s.truncate(cut + rng.below(s.len() - cut + 1));
         let Call::Space(len) = s[0] else { unreachable!() };
-        keys.push(s.iter().filter_map(|c| if let Call::Insert(k, _) = c { Some(k.clone()) } else { None }).collect());
+        keys.push(
+            s.iter()
+                .filter_map(|c| if let Call::Insert(k, _) = c { Some(k.clone()) } else { None })
+                .collect(),
+        );
         calls.extend(s);
         calls.extend(dumps(len));
         ends.push(calls.len() - 1);
@@ -105,11 +119,17 @@ fn damaged(replay: &Replay, count: &mut Count, rng: &mut Rng, stores: usize, eac
             };
             let why = match one {
                 Err(why) => Some(why),
-                Ok(one) => damage::compare(start, case, &one).map(|d| format!("call {} of them: {}", d.0 + 1, d.1)),
+                Ok(one) => damage::compare(start, case, &one).map(|d| d.1),
             };
             count.accepted += checker::accepted(start).is_some() as usize;
             if let Some(why) = why {
-                fail("a damaged store", case, &why);
+                let short = damage::shorten(replay, start, case);
+                let again = replay
+                    .run(&short)
+                    .ok()
+                    .and_then(|out| damage::compare(start, &short, &out))
+                    .map_or(why, |d| format!("the call {:02X?}: {}", short[d.0], d.1));
+                fail("a damaged store", &short, &again);
             }
             count.damaged += 1;
         }
@@ -130,7 +150,11 @@ fn main() {
             _ => break,
         }
     }
-    let replay = Replay { command: args.collect(), folder: folder.into(), seconds: 120 };
+    let replay = Replay {
+        command: args.collect(),
+        folder: folder.into(),
+        seconds: 120,
+    };
     let began = Instant::now();
     let mut count = Count::default();
     let mut rng = Rng::new(seed);
@@ -197,5 +221,10 @@ fn recorded(replay: &Replay, rng: &mut Rng, to: &str) {
     let folder = std::path::Path::new(to);
     std::fs::write(folder.join("stdin"), script::encode(&calls)).unwrap();
     std::fs::write(folder.join("stdout"), &wanted).unwrap();
-    println!("oracle: recorded {} calls in {} + {} bytes", made(&calls), script::encode(&calls).len(), wanted.len());
+    println!(
+        "oracle: recorded {} calls in {} + {} bytes",
+        made(&calls),
+        script::encode(&calls).len(),
+        wanted.len()
+    );
 }

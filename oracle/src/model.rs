@@ -41,7 +41,11 @@ pub fn critical(a: &[u8], b: &[u8]) -> usize {
 }
 
 pub fn capacity(len: usize) -> usize {
-    if len < 128 { 0 } else { ((len - 128) / 128).min(16384) }
+    if len < 128 {
+        0
+    } else {
+        ((len - 128) / 128).min(16384)
+    }
 }
 
 impl Store {
@@ -178,7 +182,11 @@ impl Model {
                 if self.len < 256 {
                     return vec![ROOM];
                 }
-                self.store = Some(Store { capacity: capacity(self.len), limit: *limit, map: BTreeMap::new() });
+                self.store = Some(Store {
+                    capacity: capacity(self.len),
+                    limit: *limit,
+                    map: BTreeMap::new(),
+                });
                 vec![0]
             }
             Call::Check => vec![if self.store.is_some() { 0 } else { STORE }],

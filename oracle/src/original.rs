@@ -30,7 +30,11 @@ impl Original {
     // Makes a call whose answer by the model is given, with the model after it; says what is not the same.
     pub fn call(&mut self, call: &Call, model: &Model, answer: &[u8]) -> Option<String> {
         let same = |what: &str, ours: String, theirs: String| {
-            if ours == theirs { None } else { Some(format!("{what}: by document 01 {ours}, the original {theirs}")) }
+            if ours == theirs {
+                None
+            } else {
+                Some(format!("{what}: by document 01 {ours}, the original {theirs}"))
+            }
         };
         if let Call::Space(_) = call {
             *self = Original::new();

@@ -128,7 +128,13 @@ pub fn split<'a>(calls: &[Call], out: &'a [u8]) -> Vec<&'a [u8]> {
             }
             Call::Write(..) => 0,
             Call::Hash => 8,
-            Call::Dump(a, n) => if a + n <= len { *n } else { 0 },
+            Call::Dump(a, n) => {
+                if a + n <= len {
+                    *n
+                } else {
+                    0
+                }
+            }
             Call::IsEmpty => 2,
             Call::Get(_) => 5,
             Call::First(_) | Call::Next(..) => match out.get(at + 3..at + 7) {
@@ -152,5 +158,8 @@ pub fn split<'a>(calls: &[Call], out: &'a [u8]) -> Vec<&'a [u8]> {
 // The hash that replay makes of a store and its guard.
 pub fn hash(bytes: &[u8]) -> u64 {
     let guard = [0xA5u8; 256];
-    bytes.iter().chain(guard.iter()).fold(2166136261, |h, b| (((h + *b as u64) & ((1 << 39) - 1)) * 16777619) & ((1 << 39) - 1))
+    bytes
+        .iter()
+        .chain(guard.iter())
+        .fold(2166136261, |h, b| (((h + *b as u64) & ((1 << 39) - 1)) * 16777619) & ((1 << 39) - 1))
 }

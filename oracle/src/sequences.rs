@@ -10,7 +10,10 @@ use crate::script::{hash, split, Call};
 pub type Difference = (usize, String);
 
 fn reads(call: &Call) -> bool {
-    matches!(call, Call::Check | Call::IsEmpty | Call::Get(_) | Call::First(_) | Call::Next(..) | Call::Hash | Call::Dump(..))
+    matches!(
+        call,
+        Call::Check | Call::IsEmpty | Call::Get(_) | Call::First(_) | Call::Next(..) | Call::Hash | Call::Dump(..)
+    )
 }
 
 // What a whole dump shows.
