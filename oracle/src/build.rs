@@ -174,3 +174,47 @@ pub fn built(rng: &mut Rng, keys: &[Key]) -> Vec<u8> {
     }
     b.s
 }
+
+// Branches on one path, each of which leads to the next by every child, and the last one to a leaf or to nothing: there are more ways down than can be walked.
+pub fn ladder(rng: &mut Rng) -> Vec<u8> {
+    let steps = 20 + rng.below(109);
+    let capacity = steps + 1 + rng.below(4);
+    let mut b = Build {
+        s: vec![0xA5; 128 * (capacity + 1)],
+        leaves: vec![],
+        branches: (0..steps).collect(),
+        flaw: Flaw::Nothing,
+    };
+    let size = *rng.pick(&[0, 0, 1, 64]);
+    let key: Key = (0..size).map(|_| rng.next() as u8).collect();
+    b.s[128..128 + size].copy_from_slice(&key);
+    b.s[128 + 119] = size as u8;
+    let mut link = if rng.chance(70) { [0, 0, 0] } else { [255, 63, 0] };
+    for i in 0..steps {
+        let position = (127 * (steps - i) / steps) as usize;
+        let most = 2 + rng.below(16);
+        let mut slots: Vec<u8> = (0..17).collect();
+        rng.shuffle(&mut slots);
+        slots.truncate(most);
+        if rng.chance(80) && !slots.contains(&nibble(&key, position)) {
+            slots.push(nibble(&key, position));
+        }
+        slots.sort();
+        let kids: Vec<(u8, [u8; 3])> = slots.iter().map(|s| (*s, link)).collect();
+        if i == 0 && rng.chance(20) {
+            link = b.branch(position, &[]);
+        } else {
+            link = b.branch(position, &kids);
+        }
+    }
+    b.s[..4].copy_from_slice(b"PQP1");
+    b.put2(4, capacity);
+    b.put2(6, rng.below(200));
+    let leaves = 1 + rng.below(capacity);
+    b.put2(8, leaves);
+    b.put2(10, steps);
+    b.s[12..15].copy_from_slice(&link);
+    b.put2(15, 65535);
+    b.put2(17, 65535);
+    b.s
+}

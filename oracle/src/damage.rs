@@ -1,6 +1,6 @@
 // Calls on damaged stores: each ends, no read and no refusal changes a byte, nothing past the last record or in the guard is written, a wrong header is always
 // refused, and the check says STORE exactly if the separate checker does. On bytes that are a store all the same, every answer is the model's.
-use crate::build::built;
+use crate::build::{built, ladder};
 use crate::checker::accepted;
 use crate::model::{capacity, Model, Store, KEY, STORE};
 use crate::replay::Replay;
@@ -119,7 +119,11 @@ fn any_key(rng: &mut Rng, keys: &[Key]) -> Key {
 // The calls on one damaged store, and the bytes it starts with.
 pub fn damaged(rng: &mut Rng, good: &[u8], keys: &[Key]) -> (Vec<u8>, Vec<Call>) {
     let own = rng.chance(40);
-    let mut bytes = if own { built(rng, keys) } else { good.to_vec() };
+    let mut bytes = match own {
+        true if rng.chance(3) => ladder(rng),
+        true => built(rng, keys),
+        false => good.to_vec(),
+    };
     for _ in 0..if own { rng.below(8) / 7 } else { 1 + rng.below(3) } {
         hurt(rng, &mut bytes);
     }
