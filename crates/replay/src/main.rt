@@ -31,12 +31,12 @@ pub struct State {
     pub filled: usize,
 }
 
-// Free room in the output from which on a record is answered.
-const ROOM: usize = 131072;
+// With no more bytes than these the output has room for any one answer.
+const ENOUGH: usize = 131072;
 
-// The output is written if it may not take one more answer.
+// The output is written once it has more bytes than that.
 fn flush(out: &[u8], filled: usize) -> usize {
-    if filled > ROOM {
+    if filled > ENOUGH {
         io::write_all(1, part(out, 0, filled));
         return 0;
     }
