@@ -153,7 +153,7 @@ fn main() {
     let replay = Replay {
         command: args.collect(),
         folder: folder.into(),
-        seconds: 60,
+        seconds: 240,
     };
     let began = Instant::now();
     let mut count = Count::default();
