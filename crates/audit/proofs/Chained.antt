@@ -7,9 +7,9 @@ use lib.Dec.{ltb}
 use lib.ListN.{length}
 use borrow.Author.Tests.{eq-eqb, eqb-true, lt-ltb, ltb-true}
 use Rattle.node.specs.Layout.{last}
-use Rattle.node.specs.Chain.{Kind}
+use Rattle.records.specs.Chain.{Kind}
 use Rattle.node.proofs.HeaderLaws.{and-left, and-right}
-use Rattle.node.proofs.ChainLaws.{ChainIn}
+use Rattle.records.proofs.ChainLaws.{ChainIn}
 use Rattle.audit.specs.Accepts.{chainRight}
 
 module _ (K : Kind) (st : List ℕ) (cap : ℕ) where

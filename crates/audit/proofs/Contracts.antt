@@ -14,8 +14,8 @@ use Rattle.model.specs.Nibble.{nibble, critical}
 use Rattle.node.specs.Layout.{last, start, Room}
 use Rattle.node.specs.Leaf.{leafIn}
 use Rattle.node.specs.Child.{numberIn, linkOf}
-use Rattle.node.specs.Chain.{Kind, leaves, branches}
-use Rattle.node.specs.Create.{noRoot}
+use Rattle.records.specs.Chain.{Kind, leaves, branches}
+use Rattle.records.specs.Create.{noRoot}
 use Rattle.node.specs.Header.{headOf}
 use Rattle.node.proofs.ChildLaws.{within}
 use Rattle.node.proofs.HeaderLaws.{good-right, blocks-fit, block-in}
@@ -26,8 +26,8 @@ use Rattle.node.specs.declared.child.Linked.the-variants.{To}
 use Rattle.node.specs.declared.header.Header.{Header}
 use Rattle.node.specs.declared.header.Head.{Head}
 use Rattle.node.specs.declared.header.Head.the-variants.{Good as GoodHead, Bad as BadHead}
-use Rattle.trie.specs.Walk.{steps}
-use Rattle.trie.proofs.WalkLaws.{NoLink, no-link}
+use Rattle.trie_spec.specs.Walk.{steps}
+use Rattle.trie_spec.proofs.WalkLaws.{NoLink, no-link}
 use Rattle.audit.specs.Walk.{tally, leafSeen, stands, head, addKid, finish, seen, countsRight, treeRight, Modest, Sound}
 use Rattle.audit.specs.Accepts.{chainRight, recordsRight, acceptsIn}
 use Rattle.audit.specs.declared.tree.Seen.{Seen}

@@ -18,7 +18,7 @@ use Rattle.node.specs.declared.child.Child.the-variants.{Leaf, Branch}
 use Rattle.node.specs.declared.child.Link.{Link}
 use Rattle.node.specs.declared.child.Linked.{Linked}
 use Rattle.node.specs.declared.child.Linked.the-variants.{To, Absent, Wrong}
-use Rattle.trie.specs.Walk.{onLinked}
+use Rattle.trie_spec.specs.Walk.{onLinked}
 use Rattle.audit.specs.Walk.{none-yet, leafSeen, addKid, finish, onCounted, kidsSeen, seen, Sound, Grown}
 use Rattle.audit.specs.declared.tree.Seen.{Seen}
 use Rattle.audit.specs.declared.tree.Seen.the-variants.{Bad}

@@ -19,8 +19,8 @@ use Rattle.pictures.specs.Stored.{root, row, Holds, HoldsAll, here}
 use Rattle.node.specs.Leaf.{leafIn}
 use Rattle.node.specs.declared.child.LeafNo.{LeafNo}
 use Rattle.node.specs.declared.child.Link.{Link}
-use Rattle.trie.specs.Accepted.{linkTo, codes, memoryOf}
-use Rattle.trie.proofs.HeldLaws.{Inside, inside-at, link-back}
+use Rattle.trie_spec.specs.Accepted.{linkTo, codes, memoryOf}
+use Rattle.trie_spec.proofs.HeldLaws.{Inside, inside-at, link-back}
 use Rattle.audit.specs.Walk.{keyOf, tally, none-yet, leafSeen, stands, head, addKid, kidsSeen, seen}
 use Rattle.audit.specs.declared.tree.Seen.{Seen}
 use Rattle.audit.specs.declared.tree.Seen.the-variants.{Good}

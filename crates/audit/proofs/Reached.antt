@@ -22,12 +22,12 @@ use Rattle.sparse_array.specs.Entries.{Entry}
 use Rattle.node.specs.Child.{numberIn, linkOf, itemOf}
 use Rattle.node.specs.Layout.{freeSize}
 use Rattle.node.specs.Leaf.{Is, leafIn}
-use Rattle.node.specs.Chain.{leaves, branches}
+use Rattle.records.specs.Chain.{leaves, branches}
 use Rattle.node.specs.Branch.{childrenIn}
 use Rattle.node.specs.declared.child.Link.{Link}
 use Rattle.node.specs.declared.child.Linked.the-variants.{To}
-use Rattle.trie.specs.Accepted.{linkTo, codes, memoryOf}
-use Rattle.trie.proofs.HeldLaws.{Inside, inside-at, link-back}
+use Rattle.trie_spec.specs.Accepted.{linkTo, codes, memoryOf}
+use Rattle.trie_spec.proofs.HeldLaws.{Inside, inside-at, link-back}
 
 pub some-or-none : (n : ℕ) → (1 ≤ n) ⊎ (n ≡ 0)
 some-or-none zero = inr refl

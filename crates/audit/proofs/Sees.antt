@@ -33,9 +33,9 @@ use Rattle.node.specs.declared.child.Child.the-variants.{Leaf, Branch}
 use Rattle.node.specs.declared.child.Link.{Link}
 use Rattle.node.specs.declared.child.Linked.{Linked}
 use Rattle.node.specs.declared.child.Linked.the-variants.{To, Absent, Wrong}
-use Rattle.trie.specs.Walk.{onLinked, onNode}
-use Rattle.trie.specs.Accepted.{linkTo, codes, memoryOf}
-use Rattle.trie.proofs.HeldLaws.{Inside}
+use Rattle.trie_spec.specs.Walk.{onLinked, onNode}
+use Rattle.trie_spec.specs.Accepted.{linkTo, codes, memoryOf}
+use Rattle.trie_spec.proofs.HeldLaws.{Inside}
 use Rattle.audit.specs.Walk.{keyOf, tally, none-yet, leafSeen, stands, head, addKid, finish, onCounted, kidsSeen, seen}
 use Rattle.audit.specs.declared.tree.Seen.{Seen}
 use Rattle.audit.specs.declared.tree.Seen.the-variants.{Good, Bad}

@@ -23,8 +23,8 @@ use Rattle.fields.proofs.NumberLaws.{little-below}
 use Rattle.node.specs.Layout.{start}
 use Rattle.node.specs.Child.{linkOf, itemOf}
 use Rattle.node.specs.Header.{headIn, headOf}
-use Rattle.node.specs.Chain.{Kind, leaves, branches}
-use Rattle.node.specs.Create.{noRoot}
+use Rattle.records.specs.Chain.{Kind, leaves, branches}
+use Rattle.records.specs.Create.{noRoot}
 use Rattle.node.proofs.ChildLaws.{within}
 use Rattle.node.proofs.HeaderLaws.{Right, and-left, and-right, good-right, blocks-fit, few}
 use Rattle.node.specs.declared.child.LeafNo.{LeafNo}
@@ -34,9 +34,9 @@ use Rattle.node.specs.declared.child.Linked.the-variants.{To, Absent, Wrong}
 use Rattle.node.specs.declared.header.Header.{Header}
 use Rattle.node.specs.declared.header.Head.{Head}
 use Rattle.node.specs.declared.header.Head.the-variants.{Good as GoodHead, Bad as BadHead}
-use Rattle.trie.specs.Walk.{steps, onLinked}
-use Rattle.trie.specs.Accepted.{memoryOf, leafUses, branchUses, Rooted, Kept, Accepted}
-use Rattle.trie.proofs.HeldLaws.{bytes-of, Inside, link-back}
+use Rattle.trie_spec.specs.Walk.{steps, onLinked}
+use Rattle.trie_spec.specs.Accepted.{memoryOf, leafUses, branchUses, Rooted, Kept, Accepted}
+use Rattle.trie_spec.proofs.HeldLaws.{bytes-of, Inside, link-back}
 use Rattle.audit.specs.Walk.{seen, countsRight, treeRight}
 use Rattle.audit.specs.Accepts.{chainRight, keptRight, recordsRight, onHead, acceptsIn}
 use Rattle.audit.specs.declared.Checked.the-variants.{Done, Store}

@@ -6,7 +6,7 @@ use mathlib.Core.List.{List}
 use lib.Dec.{ltb, eqb}
 use Rattle.node.specs.Layout.{last}
 use Rattle.node.specs.Header.{headOf}
-use Rattle.node.specs.Chain.{Kind, leaves, branches}
+use Rattle.records.specs.Chain.{Kind, leaves, branches}
 use Rattle.node.specs.declared.header.Header.{Header}
 use Rattle.node.specs.declared.header.Head.{Head}
 use Rattle.node.specs.declared.header.Head.the-variants.{Good, Bad}

@@ -10,10 +10,10 @@ use Rattle.sparse_array.specs.Entries.{Entry}
 use Rattle.node.specs.Child.{linkOf}
 use Rattle.node.specs.Leaf.{leafIn}
 use Rattle.node.specs.Branch.{childrenIn}
-use Rattle.node.specs.Create.{noRoot}
+use Rattle.records.specs.Create.{noRoot}
 use Rattle.node.specs.declared.child.LeafNo.{LeafNo}
 use Rattle.node.specs.declared.child.Link.{Link}
-use Rattle.trie.specs.Walk.{steps, onLinked, onNode}
+use Rattle.trie_spec.specs.Walk.{steps, onLinked, onNode}
 use Rattle.audit.specs.declared.tree.Seen.{Seen}
 use Rattle.audit.specs.declared.tree.Seen.the-variants.{Good, Bad}
 use Rattle.audit.specs.declared.tree.Tally.{Tally}

@@ -1,17 +1,17 @@
 // The chains of free records: from the header's first one on, for as many steps as records are not in use, each a free record of the store, and then the end
 // mark. A chain that ends after so many steps meets no record twice, so no mark is kept of those met.
-use node::chain::is_free_branch;
-use node::chain::is_free_leaf;
-use node::chain::next_branch;
-use node::chain::next_leaf;
 use node::child::BranchNo;
 use node::child::LeafNo;
 use node::layout::LAST;
+use records::chain::is_free_branch;
+use records::chain::is_free_leaf;
+use records::chain::next_branch;
+use records::chain::next_leaf;
 ghost use mathlib.Core.Path.{_≡_};
 ghost use Prim.Native.Nat.{_≤_, _-_};
 ghost use lib.ListN.{length};
 ghost use Rattle.node.specs.Layout.{start};
-ghost use Rattle.node.specs.Chain.{leaves, branches};
+ghost use Rattle.records.specs.Chain.{leaves, branches};
 ghost use Rattle.audit.specs.Accepts.{chainRight};
 
 // The chain of the leaves that are not in use.

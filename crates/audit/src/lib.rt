@@ -19,7 +19,7 @@ ghost use Prim.Native.Nat.{_≤_};
 ghost use lib.ListN.{length};
 ghost use Rattle.model.specs.Picture.{Tree};
 ghost use Rattle.node.specs.Layout.{start};
-ghost use Rattle.trie.specs.Accepted.{Accepted};
+ghost use Rattle.trie_spec.specs.Accepted.{Accepted};
 ghost use Rattle.audit.specs.Accepts.{recordsRight, acceptsIn};
 
 pub enum Checked {

@@ -5,14 +5,14 @@ use mathlib.Core.Path.{_≡_, refl, sym, ap, subst, _∙_}
 use mathlib.Core.List.{List}
 use Rattle.promises.specs.Meaning.{Layout, Reply}
 use Rattle.promises.specs.Promises.{Insert, Get, Remove}
-use Rattle.command.specs.Line.{command, insert, get, delete}
-use Rattle.command.specs.Answer.{answerText, insertAnswer, getAnswer, removeAnswer, answerLine, answerCommand}
-use Rattle.command.specs.Code.{Wrote}
-use Rattle.command.specs.declared.writing.Answer.{Answer}
-use Rattle.index.specs.declared.insert.Inserted.{Inserted}
-use Rattle.index.specs.declared.get.Got.{Got}
-use Rattle.index.specs.declared.changed.Changed.{Changed}
-use Rattle.index.specs.Replies.{insertReply, getReply, changedReply}
+use Rattle.line.specs.Line.{command, insert, get, delete}
+use Rattle.line.specs.Answer.{answerText, insertAnswer, getAnswer, removeAnswer, answerLine, answerCommand}
+use Rattle.line.specs.Code.{Wrote}
+use Rattle.line.specs.declared.writing.Answer.{Answer}
+use Rattle.index_spec.specs.declared.insert.Inserted.{Inserted}
+use Rattle.index_spec.specs.declared.get.Got.{Got}
+use Rattle.index_spec.specs.declared.changed.Changed.{Changed}
+use Rattle.index_spec.specs.Replies.{insertReply, getReply, changedReply}
 use Rattle.command.specs.Answered.{insertTold, getTold, removeTold, Answered}
 
 insert-told : (q : Inserted) → insertTold q ≡ insertAnswer (insertReply q .answer)

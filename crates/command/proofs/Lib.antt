@@ -1,9 +1,3 @@
-pub mod ReadLaws
-pub mod ParseLaws
-pub mod WriteLaws
-pub mod PieceLaws
-pub mod CasesHold
-pub mod RoundTrip
 pub mod AnswerLaws
 pub mod LineLaws
 pub mod PageLines

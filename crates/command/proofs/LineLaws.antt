@@ -8,9 +8,9 @@ use lib.ListN.{length, getD, take, drop, length-take, length-drop, length-append
 use lib.Seq.{take-all, take-at}
 use borrow.Author.Tests.{lt-ltb, le-ltb}
 use borrow.Rule.Slice.PartMut.{putMid}
-use Rattle.command.specs.Answer.{entryText}
-use Rattle.command.specs.Code.{Wrote}
-use Rattle.command.proofs.WriteLaws.{wrote-none, wrote-as, wrote-rest, entry-few}
+use Rattle.line.specs.Answer.{entryText}
+use Rattle.line.specs.Code.{Wrote}
+use Rattle.line.proofs.WriteLaws.{wrote-none, wrote-as, wrote-rest, entry-few}
 use Rattle.command.specs.PageText.{valueAt, pageText, lastAt, keyAt, Kept}
 
 module _ (c : ℕ) (l : List ℕ) {o : List ℕ} where

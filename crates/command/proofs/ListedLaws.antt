@@ -1,7 +1,7 @@
 -- A whole listing and its `end`, in an output that holds any.
 -- Assumes nothing.
-use Prim.Native.Nat.{ℕ, _+_, _*_, _-_, _≤_}
-use mathlib.Core.Path.{_≡_, refl, sym, ap, subst, _∙_}
+use Prim.Native.Nat.{ℕ, _+_, _-_, _≤_}
+use mathlib.Core.Path.{_≡_, refl, sym, ap, _∙_}
 use mathlib.Core.Bool.{Bool, true, false}
 use mathlib.Core.List.{List, [], _∷_, _++_, append-assoc}
 use native.Mathlib.Omega.{arith}
@@ -12,18 +12,18 @@ use Rattle.model.specs.Key.{keyLimit}
 use Rattle.model.specs.Map.{Entry, pick, keep}
 use Rattle.model.specs.Numbers.{capacityOf}
 use Rattle.model.specs.Page.{start, matches, under}
-use Rattle.promises.specs.Meaning.{Meaning, Means, Lawful}
-use Rattle.index.specs.Layout.{layout}
-use Rattle.index.specs.Replies.{modeOf}
-use Rattle.index.specs.declared.pages.Mode.{Mode}
-use Rattle.index.proofs.CallLaws.{lawful}
-use Rattle.command.specs.Line.{command, list}
-use Rattle.command.specs.Answer.{answerText, entriesText, answerLine, answerCommand}
+use Rattle.promises.specs.Meaning.{Meaning, Means}
+use Rattle.index_spec.specs.Layout.{layout}
+use Rattle.index_spec.specs.Replies.{modeOf}
+use Rattle.index_spec.specs.declared.pages.Mode.{Mode}
+use Rattle.index_spec.proofs.CallLaws.{lawful}
+use Rattle.line.specs.Line.{command, list}
+use Rattle.line.specs.Answer.{answerText, entriesText, answerLine, answerCommand}
 use Rattle.command.specs.Answered.{Answered}
-use Rattle.command.specs.Code.{Wrote}
+use Rattle.line.specs.Code.{Wrote}
 use Rattle.command.specs.Listing.{linesRoom, outputRoom, IsListed}
-use Rattle.command.specs.declared.writing.Answer.the-variants.{End}
-use Rattle.command.proofs.WriteLaws.{wrote-as, wrote-rest}
+use Rattle.line.specs.declared.writing.Answer.the-variants.{End}
+use Rattle.line.proofs.WriteLaws.{wrote-as, wrote-rest}
 
 keep-few : (f : List ℕ → Bool) (m : List Entry) → length (keep f m) ≤ length m
 keep-few f [] = omega arith

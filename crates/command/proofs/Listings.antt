@@ -6,14 +6,13 @@ use mathlib.Core.Bool.{true}
 use mathlib.Core.List.{List, [], _∷_, _++_, append-assoc}
 use lib.ListN.{length, take, drop, take-append-drop}
 use lib.Seq.{take-all, append-snoc}
-use lib.Dec.{leb}
 use borrow.Author.Tests.{leb-true}
 use Rattle.model.proofs.Less.{Sorted}
 use Rattle.model.specs.Map.{Entry}
 use Rattle.model.specs.Page.{Mode, under, matches, From, afterKey, above, page}
 use Rattle.model.proofs.Keep.{keep-sorted}
 use Rattle.model.proofs.PageLaws.{next-page}
-use Rattle.command.specs.Answer.{entryText, entriesText}
+use Rattle.line.specs.Answer.{entryText, entriesText}
 
 entries-append : (xs ys : List Entry) → entriesText (xs ++ ys) ≡ entriesText xs ++ entriesText ys
 unfolding entriesText

@@ -11,7 +11,7 @@ use Rattle.model.specs.Key.{IsKey}
 use Rattle.model.specs.Map.{Entry, All}
 use Rattle.model.specs.Entry.{field, fourBytes, entryBytes, entriesBytes}
 use Rattle.fields.specs.Number.{value, bytesAt, big}
-use Rattle.command.specs.Answer.{entryText, entriesText}
+use Rattle.line.specs.Answer.{entryText, entriesText}
 use Rattle.command.specs.PageText.{valueAt, pageText}
 
 -- a number from its bytes

@@ -1,10 +1,10 @@
 -- A listing from its pages, on a store that stays as it is: a law for each way out. Assumes nothing.
-use Prim.Native.Nat.{ℕ, zero, suc, _+_, _-_, _*_, _≤_, _<_}
+use Prim.Native.Nat.{ℕ, _+_, _-_, _*_, _≤_, _<_}
 use mathlib.Core.Path.{_≡_, refl, sym, ap, subst, _∙_}
 use mathlib.Core.Bool.{Bool, true, false, true≢false}
 use mathlib.Core.List.{List, [], _∷_, _++_}
 use native.Mathlib.Omega.{arith}
-use lib.Dec.{leb, ltb}
+use lib.Dec.{leb}
 use lib.ListN.{length, take, drop, length-take, length-drop, length-append}
 use lib.Seq.{take-all}
 use borrow.Author.Tests.{le-ltb, leb-true, leb-false}
@@ -15,7 +15,6 @@ use Rattle.model.specs.Key.{keyLimit, IsKey}
 use Rattle.model.specs.Map.{Entry, All}
 use Rattle.model.specs.Page.{From, start, afterKey, under, above, page}
 use Rattle.model.specs.Entry.{entriesBytes}
-use Rattle.model.specs.Picture.{tooLong}
 use Rattle.model.proofs.Bounds.{entries-keys}
 use Rattle.model.proofs.Less.{Sorted}
 use Rattle.model.proofs.TreeLaws.{entries-sorted}
@@ -23,17 +22,17 @@ use Rattle.promises.specs.Meaning.{Meaning, Means, Reply}
 use Rattle.promises.specs.Says.{Asked, fromTooLong, pageOf, pageGiven, pageSays, PageSays}
 use Rattle.promises.specs.Promises.{Pages, NextPage, FirstPage}
 use Rattle.promises.proofs.EntryOne.{page-keys}
-use Rattle.index.specs.Layout.{layout}
-use Rattle.index.specs.Replies.{modeOf, pageReply}
-use Rattle.index.specs.declared.pages.Mode.{Mode}
-use Rattle.index.specs.declared.pages.Paged.{Paged}
-use Rattle.index.proofs.WayLaws.{not-too-long}
-use Rattle.command.specs.Answer.{entryText, entriesText}
-use Rattle.command.specs.Code.{Wrote}
+use Rattle.index_spec.specs.Layout.{layout}
+use Rattle.index_spec.specs.Replies.{modeOf, pageReply}
+use Rattle.index_spec.specs.declared.pages.Mode.{Mode}
+use Rattle.index_spec.specs.declared.pages.Paged.{Paged}
+use Rattle.index_spec.proofs.WayLaws.{not-too-long}
+use Rattle.line.specs.Answer.{entryText, entriesText}
+use Rattle.line.specs.Code.{Wrote}
 use Rattle.command.specs.Listing.{pageSize, outputRoom, IsPage, WasShown, IsListed}
 use Rattle.command.specs.declared.listing.Shown.{Shown}
-use Rattle.command.proofs.WriteLaws.{wrote-none, wrote-as, wrote-rest, entry-few}
-use Rattle.command.proofs.Listings.{list-end, list-on, list-step}
+use Rattle.line.proofs.WriteLaws.{wrote-none, wrote-as, wrote-rest, entry-few}
+use Rattle.command.proofs.Listings.{list-on, list-step}
 
 -- ---- what a page's answer and bytes say
 

@@ -1,5 +1,5 @@
 -- What is shown of a page: a law for each way out. Assumes nothing.
-use Prim.Native.Nat.{ℕ, zero, suc, _+_, _*_, _/_, _%_, _≤_, _<_}
+use Prim.Native.Nat.{ℕ, suc, _+_, _*_, _%_, _≤_, _<_}
 use mathlib.Core.Path.{_≡_, refl, sym, ap, ap₂, subst, _∙_}
 use mathlib.Core.Logic.{_⊎_, ⊎-elim}
 use mathlib.Core.Bool.{Bool, true, false, true≢false}
@@ -10,12 +10,12 @@ use lib.Seq.{drop-drop, getD-drop, take-at, drop-append-seam}
 use denote.Enum.Declared.{declared, tagOf}
 use borrow.Author.Tests.{le-ltb}
 use Rattle.model.specs.Key.{IsKey}
-use Rattle.model.specs.Map.{Entry, All, pick}
+use Rattle.model.specs.Map.{Entry, All}
 use Rattle.model.specs.Entry.{field, fourBytes, entryBytes, entriesBytes}
-use Rattle.index.specs.declared.pages.Paged.{Paged}
-use Rattle.index.proofs.pages.Paged.{enum}
-use Rattle.command.specs.Answer.{entriesText}
-use Rattle.command.specs.Code.{Wrote}
+use Rattle.index_spec.specs.declared.pages.Paged.{Paged}
+use Rattle.index_spec.proofs.pages.Paged.{enum}
+use Rattle.line.specs.Answer.{entriesText}
+use Rattle.line.specs.Code.{Wrote}
 use Rattle.command.specs.PageText.{pageText, lastAt, keyAt, Kept}
 use Rattle.command.specs.Listing.{pageSize, IsPage, WasShown}
 use Rattle.command.specs.declared.listing.Shown.{Shown}

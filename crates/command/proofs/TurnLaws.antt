@@ -8,20 +8,20 @@ use mathlib.Core.Option.{Option, none, some}
 use native.Mathlib.Omega.{arith}
 use lib.ListN.{length, take, drop, length-take, drop-of-length-le}
 use Rattle.promises.specs.Meaning.{Meaning, Means}
-use Rattle.index.specs.Layout.{layout}
-use Rattle.command.specs.Line.{Line}
-use Rattle.command.specs.Answer.{answerText, answerLine}
+use Rattle.index_spec.specs.Layout.{layout}
+use Rattle.line.specs.Line.{Line}
+use Rattle.line.specs.Answer.{answerText, answerLine}
 use Rattle.command.specs.Answered.{Answered}
-use Rattle.command.specs.Run.{heldLine, takeLine, wrote, feed, finish}
-use Rattle.command.specs.Run as run
-use Rattle.command.specs.Code.{lineIn, parsedSize, LineIs, Wrote, heldIn, takenIn, takenSize, takenMoves, takenHeld, TakenIs}
+use Rattle.line.specs.Run.{heldLine, takeLine, wrote, feed}
+use Rattle.line.specs.Run as run
+use Rattle.line.specs.Code.{lineIn, parsedSize, LineIs, Wrote, heldIn, takenIn, takenSize, takenMoves, takenHeld, TakenIs}
 use Rattle.command.specs.Turned.{gave, turnOf, Turned, Finished}
-use Rattle.command.specs.declared.reading.Parsed.{Parsed}
-use Rattle.command.specs.declared.writing.Answer.the-variants.{Bad, Key}
-use Rattle.command.specs.declared.pieces.Held.{Held}
-use Rattle.command.specs.declared.pieces.Taken.{Taken}
-use Rattle.command.proofs.WriteLaws.{wrote-none, wrote-as}
-use Rattle.command.proofs.PieceLaws.{feed-more, feed-ended}
+use Rattle.line.specs.declared.reading.Parsed.{Parsed}
+use Rattle.line.specs.declared.writing.Answer.the-variants.{Bad, Key}
+use Rattle.line.specs.declared.pieces.Held.{Held}
+use Rattle.line.specs.declared.pieces.Taken.{Taken}
+use Rattle.line.proofs.WriteLaws.{wrote-none, wrote-as}
+use Rattle.line.proofs.PieceLaws.{feed-more, feed-ended}
 
 -- ---- a line that was read
 

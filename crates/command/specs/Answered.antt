@@ -4,13 +4,13 @@ use Prim.Native.Nat.{ℕ, _≤_}
 use mathlib.Core.List.{List}
 use lib.ListN.{length}
 use Rattle.promises.specs.Meaning.{Layout, Meaning, Means}
-use Rattle.command.specs.Line.{Line}
-use Rattle.command.specs.Answer.{answerLine}
-use Rattle.command.specs.Code.{Wrote}
-use Rattle.command.specs.declared.writing.Answer.{Answer}
-use Rattle.index.specs.declared.insert.Inserted.{Inserted}
-use Rattle.index.specs.declared.get.Got.{Got}
-use Rattle.index.specs.declared.changed.Changed.{Changed}
+use Rattle.line.specs.Line.{Line}
+use Rattle.line.specs.Answer.{answerLine}
+use Rattle.line.specs.Code.{Wrote}
+use Rattle.line.specs.declared.writing.Answer.{Answer}
+use Rattle.index_spec.specs.declared.insert.Inserted.{Inserted}
+use Rattle.index_spec.specs.declared.get.Got.{Got}
+use Rattle.index_spec.specs.declared.changed.Changed.{Changed}
 
 abbrev pub insertTold : Inserted → Answer
 insertTold Inserted.New = Answer.New

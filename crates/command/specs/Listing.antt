@@ -10,12 +10,12 @@ use Rattle.model.specs.Map.{Entry, All}
 use Rattle.model.specs.Page.{From, under, above}
 use Rattle.model.specs.Entry.{entriesBytes}
 use Rattle.promises.specs.Meaning.{Meaning, Means}
-use Rattle.index.specs.Layout.{layout}
-use Rattle.index.specs.Replies.{modeOf}
-use Rattle.index.specs.declared.pages.Mode.{Mode}
-use Rattle.index.specs.declared.pages.Paged.{Paged}
-use Rattle.command.specs.Answer.{entriesText}
-use Rattle.command.specs.Code.{Wrote}
+use Rattle.index_spec.specs.Layout.{layout}
+use Rattle.index_spec.specs.Replies.{modeOf}
+use Rattle.index_spec.specs.declared.pages.Mode.{Mode}
+use Rattle.index_spec.specs.declared.pages.Paged.{Paged}
+use Rattle.line.specs.Answer.{entriesText}
+use Rattle.line.specs.Code.{Wrote}
 use Rattle.command.specs.declared.listing.Shown.{Shown}
 
 -- how many entries a page is asked for

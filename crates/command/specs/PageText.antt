@@ -7,7 +7,7 @@ use lib.ListN.{length, getD, take, drop}
 use lib.Dec.{ltb}
 use Rattle.model.specs.Map.{pick}
 use Rattle.fields.specs.Number.{big}
-use Rattle.command.specs.Answer.{entryText}
+use Rattle.line.specs.Answer.{entryText}
 
 -- 4 bytes, high byte first
 abbrev pub valueAt : List ℕ → ℕ → ℕ

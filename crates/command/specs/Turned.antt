@@ -2,15 +2,15 @@
 -- Assumes nothing.
 use Prim.Native.Nat.{ℕ, _≤_}
 use mathlib.Core.Path.{_≡_}
-use mathlib.Core.List.{List, [], _∷_}
-use mathlib.Core.Option.{Option, none, some}
+use mathlib.Core.List.{List, []}
+use mathlib.Core.Option.{Option, some}
 use lib.ListN.{length, drop}
 use Rattle.promises.specs.Meaning.{Meaning, Means}
-use Rattle.index.specs.Layout.{layout}
-use Rattle.command.specs.Line.{lineLimit}
-use Rattle.command.specs.Answer.{answerLine}
-use Rattle.command.specs.Run.{heldLine, Taken, more, ended, takeLine, finish}
-use Rattle.command.specs.Code.{heldIn, Wrote}
+use Rattle.index_spec.specs.Layout.{layout}
+use Rattle.line.specs.Line.{lineLimit}
+use Rattle.line.specs.Answer.{answerLine}
+use Rattle.line.specs.Run.{heldLine, Taken, more, ended, takeLine, finish}
+use Rattle.line.specs.Code.{heldIn, Wrote}
 use Rattle.command.specs.declared.turns.Turn.{Turn}
 
 -- The bytes answered, what is held of the present line, the store's meaning, and the rest of the piece.

@@ -1,14 +1,14 @@
 // Insertion, lookup and deletion carried out on a store, and the answer's line written.
-use crate::writing::Answer;
-use crate::writing::put_answer;
 use index::changed::Changed;
 use index::get::Got;
 use index::insert::Inserted;
+use line::writing::Answer;
+use line::writing::put_answer;
 ghost use mathlib.Core.Path.{_≡_};
 ghost use Prim.Native.Nat.{_≤_};
 ghost use lib.ListN.{length};
-ghost use Rattle.index.specs.Layout.{layout};
-ghost use Rattle.command.specs.Line;
+ghost use Rattle.index_spec.specs.Layout.{layout};
+ghost use Rattle.line.specs.Line;
 ghost use Rattle.command.specs.Answered.{insertTold, getTold, removeTold, Answered};
 
 fn told_insert(r: Inserted) -> Answer

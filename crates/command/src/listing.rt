@@ -1,21 +1,21 @@
 // Listings: pages fetched one after the other, and their entries written as lines.
-use crate::writing::Answer;
-use crate::writing::put_answer;
-use crate::writing::put_entry;
 use fields::big::read4;
 use index::pages::Mode;
 use index::pages::Paged;
 use index::pages::first_page;
 use index::pages::next_page;
+use line::writing::Answer;
+use line::writing::put_answer;
+use line::writing::put_entry;
 ghost use mathlib.Core.Path.{_≡_};
 ghost use Prim.Native.Nat.{_+_, _*_, _≤_, _<_};
 ghost use lib.ListN.{length, take};
 ghost use Rattle.model.specs.Page.{start, afterKey};
-ghost use Rattle.index.specs.Layout.{layout};
-ghost use Rattle.index.specs.Replies.{modeOf};
-ghost use Rattle.command.specs.Line;
+ghost use Rattle.index_spec.specs.Layout.{layout};
+ghost use Rattle.index_spec.specs.Replies.{modeOf};
+ghost use Rattle.line.specs.Line;
 ghost use Rattle.command.specs.Answered.{Answered};
-ghost use Rattle.command.specs.Code.{Wrote};
+ghost use Rattle.line.specs.Code.{Wrote};
 ghost use Rattle.command.specs.PageText.{pageText, lastAt, keyAt, Kept};
 ghost use Rattle.command.specs.Listing.{outputRoom, WasShown, IsListed};
 

@@ -1,17 +1,8 @@
 // What a call answers that changes a stored key or takes it out.
-use trie::find::Exact;
+pub use index_spec::changed::Changed;
+use trie_spec::find::Exact;
 ghost use mathlib.Core.Path.{_≡_};
-ghost use Rattle.index.specs.Calls.{refusedChange};
-
-pub enum Changed {
-    Done,
-    // the slice is too short, the header is wrong, or the store holds no tree
-    Store,
-    // the key is longer than 64 bytes
-    Key,
-    // the key is not stored
-    Absent,
-}
+ghost use Rattle.index_spec.specs.Calls.{refusedChange};
 
 // What a lookup that found nothing is answered with.
 pub fn refused(found: Exact) -> Changed

@@ -1,28 +1,19 @@
 // The value of a stored key.
+pub use index_spec::get::Got;
 use node::header::Head;
 use node::header::Header;
 use node::header::read_head;
 use node::layout::KEY_LIMIT;
-use trie::find::Exact;
 use trie::find::find_exact_leaf;
+use trie_spec::find::Exact;
 ghost use mathlib.Core.Path.{_≡_};
 ghost use Prim.Native.Nat.{_≤_};
 ghost use lib.ListN.{length};
 ghost use Rattle.node.specs.Layout.{start};
 ghost use Rattle.promises.specs.Promises.{Get};
-ghost use Rattle.index.specs.Layout.{layout};
-ghost use Rattle.index.specs.Replies.{getReply};
-ghost use Rattle.index.specs.Calls.{refusedGet, gotIn, getCall};
-
-pub enum Got {
-    Value(u32),
-    // the slice is too short, the header is wrong, or the store holds no tree
-    Store,
-    // the key is longer than 64 bytes
-    Key,
-    // the key is not stored
-    Absent,
-}
+ghost use Rattle.index_spec.specs.Layout.{layout};
+ghost use Rattle.index_spec.specs.Replies.{getReply};
+ghost use Rattle.index_spec.specs.Calls.{refusedGet, gotIn, getCall};
 
 // What a lookup that found nothing is answered with.
 fn refused(found: Exact) -> Got

@@ -1,27 +1,15 @@
 // A key goes in with its value; a stored key gets the new value.
+pub use index_spec::insert::Inserted;
 use node::header::Head;
 use node::header::read_head;
 use node::layout::KEY_LIMIT;
-use trie::insert::Put;
+use trie_spec::insert::Put;
 ghost use mathlib.Core.Path.{_≡_};
-ghost use Rattle.trie.specs.Writes.{Did};
+ghost use Rattle.trie_spec.specs.Writes.{Did};
 ghost use Rattle.promises.specs.Promises.{Insert};
-ghost use Rattle.index.specs.Layout.{layout};
-ghost use Rattle.index.specs.Replies.{insertReply, insertedOf};
-ghost use Rattle.index.specs.Calls.{insertCall};
-
-pub enum Inserted {
-    New,
-    // the key was stored, and has the new value
-    Replaced,
-    // the slice is too short, the header is wrong, or the store holds no tree
-    Store,
-    // the key is longer than 64 bytes
-    Key,
-    // the closest leaf is at the limit, and a new branch would lie above it
-    Height,
-    Full,
-}
+ghost use Rattle.index_spec.specs.Layout.{layout};
+ghost use Rattle.index_spec.specs.Replies.{insertReply, insertedOf};
+ghost use Rattle.index_spec.specs.Calls.{insertCall};
 
 fn named(put: Put) -> Inserted
     ensures { λ r. ⌜ r ≡ insertedOf put ⌝ }

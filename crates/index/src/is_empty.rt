@@ -1,18 +1,12 @@
 // Whether a store has no key: by the header's count of leaves.
+pub use index_spec::is_empty::Empty;
 use node::header::Head;
 use node::header::read_head;
 ghost use mathlib.Core.Path.{_≡_};
 ghost use Rattle.promises.specs.Promises.{IsEmpty};
-ghost use Rattle.index.specs.Layout.{layout};
-ghost use Rattle.index.specs.Replies.{emptyOf, emptyReply};
-ghost use Rattle.index.specs.Calls.{emptyCall};
-
-pub enum Empty {
-    Yes,
-    No,
-    // the slice is too short or the header is wrong
-    Store,
-}
+ghost use Rattle.index_spec.specs.Layout.{layout};
+ghost use Rattle.index_spec.specs.Replies.{emptyOf, emptyReply};
+ghost use Rattle.index_spec.specs.Calls.{emptyCall};
 
 fn empty_of(leaves: u16) -> Empty
     ensures { λ r. ⌜ r ≡ emptyOf leaves ⌝ }

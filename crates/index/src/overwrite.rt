@@ -1,20 +1,20 @@
 // A stored key gets another value.
-use crate::changed::Changed;
 use crate::changed::refused;
+use index_spec::changed::Changed;
 use node::header::Head;
 use node::header::Header;
 use node::header::read_head;
 use node::layout::KEY_LIMIT;
-use trie::find::Exact;
 use trie::find::find_exact_leaf;
+use trie_spec::find::Exact;
 ghost use Prim.Native.Nat.{_≤_};
 ghost use lib.ListN.{length};
 ghost use Rattle.node.specs.Layout.{start};
-ghost use Rattle.trie.specs.Writes.{Did};
+ghost use Rattle.trie_spec.specs.Writes.{Did};
 ghost use Rattle.promises.specs.Promises.{Overwrite};
-ghost use Rattle.index.specs.Layout.{layout};
-ghost use Rattle.index.specs.Replies.{changedReply};
-ghost use Rattle.index.specs.Calls.{overwrittenIn, overwriteCall};
+ghost use Rattle.index_spec.specs.Layout.{layout};
+ghost use Rattle.index_spec.specs.Replies.{changedReply};
+ghost use Rattle.index_spec.specs.Calls.{overwrittenIn, overwriteCall};
 
 fn overwrite_in(store: &mut [u8], h: Header, key: &[u8], value: u32) -> Changed
     requires { ⌜ start (h .capacity) ≤ length (now store) ⌝ }

@@ -1,5 +1,6 @@
 // Listings, page by page. "From the start" is not "after the empty key", so they are two calls.
-use iterator::entry::ENTRY_LIMIT;
+pub use index_spec::pages::Mode;
+pub use index_spec::pages::Paged;
 use iterator::page::Listed;
 use iterator::page::list;
 use node::header::Head;
@@ -8,6 +9,7 @@ use node::header::read_head;
 use node::layout::KEY_LIMIT;
 use trie::keys::critical;
 use trie::keys::nibble;
+use walk::entry::ENTRY_LIMIT;
 ghost use mathlib.Core.Path.{_≡_};
 ghost use Prim.Native.Nat.{_≤_, _*_};
 ghost use lib.ListN.{length};
@@ -15,32 +17,11 @@ ghost use Rattle.model.specs.Key.{keyLimit};
 ghost use Rattle.model.specs.Page.{afterKey, follows};
 ghost use Rattle.model.specs.Numbers.{entryLimit};
 ghost use Rattle.node.specs.Layout.{start};
-ghost use Rattle.trie.specs.Writes.{Did};
+ghost use Rattle.trie_spec.specs.Writes.{Did};
 ghost use Rattle.promises.specs.Promises.{FirstPage, NextPage};
-ghost use Rattle.index.specs.Layout.{layout};
-ghost use Rattle.index.specs.Replies.{modeOf, pageReply};
-ghost use Rattle.index.specs.Pages.{isInclusive, countWrong, pagedOf, nextIn, firstCall, nextCall};
-
-// Whether the key that is equal to the prefix is listed.
-pub enum Mode {
-    Plain,
-    Inclusive,
-}
-
-pub enum Paged {
-    // the entries given, the bytes that they take in the output, and whether no further one is stored
-    Done {
-        entries: usize,
-        bytes: usize,
-        end: bool,
-    },
-    // the slice is too short, the header is wrong, or the store holds no tree
-    Store,
-    // the prefix or the after-key is longer than 64 bytes
-    Key,
-    // the size is 0 or over 256, or the output is shorter than 74 bytes for each entry
-    Count,
-}
+ghost use Rattle.index_spec.specs.Layout.{layout};
+ghost use Rattle.index_spec.specs.Replies.{modeOf, pageReply};
+ghost use Rattle.index_spec.specs.Pages.{isInclusive, countWrong, pagedOf, nextIn, firstCall, nextCall};
 
 const PAGE_LIMIT: u32 = 256;
 

@@ -1,4 +1,5 @@
 // Another height limit: the header is written with it.
+pub use index_spec::set_limit::Limited;
 use node::header::Head;
 use node::header::Header;
 use node::header::put_head;
@@ -8,17 +9,11 @@ ghost use Prim.Native.Nat.{_≤_};
 ghost use lib.ListN.{length};
 ghost use Rattle.model.specs.Numbers.{headerSize};
 ghost use Rattle.node.specs.Header.{setHead};
-ghost use Rattle.trie.specs.Writes.{Did};
+ghost use Rattle.trie_spec.specs.Writes.{Did};
 ghost use Rattle.promises.specs.Promises.{SetLimit};
-ghost use Rattle.index.specs.Layout.{layout, withLimit};
-ghost use Rattle.index.specs.Replies.{limitReply};
-ghost use Rattle.index.specs.Calls.{limitCall};
-
-pub enum Limited {
-    Done,
-    // the slice is too short or the header is wrong
-    Store,
-}
+ghost use Rattle.index_spec.specs.Layout.{layout, withLimit};
+ghost use Rattle.index_spec.specs.Replies.{limitReply};
+ghost use Rattle.index_spec.specs.Calls.{limitCall};
 
 // The header h with another limit.
 fn put_limit(store: &mut [u8], h: Header, limit: u16)

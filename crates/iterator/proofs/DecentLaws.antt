@@ -1,6 +1,6 @@
 -- What a page keeps on any bytes: the output's length, and every byte of it where the page is refused. Assumes nothing.
-use Prim.Native.Nat.{ℕ, _-_, _*_, _≤_, _<_}
-use mathlib.Core.Path.{_≡_, refl, sym, ap, _∙_}
+use Prim.Native.Nat.{ℕ, _-_, _*_, _≤_}
+use mathlib.Core.Path.{_≡_, refl, _∙_}
 use mathlib.Core.Bool.{Bool, true, false, cond}
 use mathlib.Core.List.{List, [], _∷_}
 use mathlib.Core.Option.{none, some}
@@ -20,19 +20,18 @@ use Rattle.node.specs.declared.child.Link.{Link}
 use Rattle.node.specs.declared.child.Linked.{Linked}
 use Rattle.node.specs.declared.child.Linked.the-variants.{To, Absent, Wrong as WrongLink}
 use Rattle.node.specs.declared.header.Header.{Header}
-use Rattle.trie.specs.Walk.{depth, steps, linkIn, onLinked, walk, near, first}
-use Rattle.trie.specs.Writes.{Outcome, outcome, onClosest}
-use Rattle.trie.specs.declared.descent.Walked.{Walked}
-use Rattle.trie.specs.declared.descent.Walked.the-variants.{At, Missing, Wrong as NoTree}
-use Rattle.trie.specs.declared.descent.Closest.{Closest}
-use Rattle.trie.specs.declared.descent.Closest.the-variants.{Leaf, Wrong as NoLeaf}
-use Rattle.iterator.specs.Walk.{Met, after, Sheet, isStopped, add, put, puts}
+use Rattle.trie_spec.specs.Walk.{depth, steps, linkIn, onLinked, walk, near, first}
+use Rattle.trie_spec.specs.Writes.{Outcome, outcome, onClosest}
+use Rattle.trie_spec.specs.declared.descent.Walked.{Walked}
+use Rattle.trie_spec.specs.declared.descent.Walked.the-variants.{At, Missing, Wrong as NoTree}
+use Rattle.trie_spec.specs.declared.descent.Closest.{Closest}
+use Rattle.trie_spec.specs.declared.descent.Closest.the-variants.{Leaf, Wrong as NoLeaf}
+use Rattle.walk.specs.Walk.{Met, after, Sheet, isStopped, add, put, puts}
 use Rattle.iterator.specs.Page.{nothing, listedOf, blank, listed, listPast, listBeside, listUnder, onWalked, listFrom, listIn}
-use Rattle.iterator.specs.declared.walk.Stop.{Stop}
-use Rattle.iterator.specs.declared.walk.Stop.the-variants.{Going, Further, Wrong as WentWrong}
+use Rattle.walk.specs.declared.walk.Stop.{Stop}
+use Rattle.walk.specs.declared.walk.Stop.the-variants.{Going, Further, Wrong as WentWrong}
 use Rattle.iterator.specs.declared.page.Listed.{Listed}
 use Rattle.iterator.specs.declared.page.Listed.the-variants.{Page, Wrong}
-use Rattle.iterator.proofs.PageContracts.{puts-left}
 
 -- ---- what is written
 

@@ -1,11 +1,5 @@
-pub mod EntryLaws
-pub mod SheetLaws
-pub mod WalkLaws
-pub mod AfterLaws
 pub mod PageContracts
-pub mod HeldLaws
 pub mod SeekLaws
-pub mod TakeLaws
 pub mod PageLaws
 pub mod DecentLaws
 pub mod UnreadLaws

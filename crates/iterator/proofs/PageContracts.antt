@@ -1,5 +1,5 @@
 -- The functions of a page: a law for each way out. Assumes nothing.
-use Prim.Native.Nat.{ℕ, zero, suc, _-_, _*_, _≤_, _<_, compare, Ordering}
+use Prim.Native.Nat.{ℕ, suc, _-_, _*_, _≤_, _<_, compare, Ordering}
 use mathlib.Core.Path.{_≡_, refl, sym, ap, subst, _∙_}
 use mathlib.Core.Bool.{Bool, true, false, cond}
 use mathlib.Core.List.{List, [], _∷_}
@@ -10,9 +10,7 @@ use lib.Dec.{eqb}
 use lib.ListN.{length}
 use borrow.Author.Tests.{eq-eqb, ne-eqb}
 use Rattle.model.specs.Key.{order, onEqual, startsWith}
-use Rattle.model.specs.Map.{choose}
 use Rattle.model.specs.Nibble.{nibble, critical}
-use Rattle.model.specs.Numbers.{entryLimit}
 use Rattle.model.proofs.Compare.{Said, lower, same, higher, said, compare-lt, compare-eq, compare-gt}
 use Rattle.model.proofs.KeyLaws.{critical-order}
 use Rattle.fields.specs.Common.{common}
@@ -28,19 +26,18 @@ use Rattle.node.specs.declared.child.Linked.{Linked}
 use Rattle.node.specs.declared.child.Linked.the-variants.{To}
 use Rattle.node.specs.declared.header.Header.{Header}
 use Rattle.node.proofs.HeaderLaws.{block-in}
-use Rattle.trie.specs.Walk.{depth, steps, linkIn, walk, near, first, Lies, Sound}
-use Rattle.trie.specs.Writes.{Outcome, outcome, Did, onClosest}
-use Rattle.trie.specs.declared.descent.Step.{Step}
-use Rattle.trie.specs.declared.descent.Walked.{Walked}
-use Rattle.trie.specs.declared.descent.Walked.the-variants.{At, Missing, Wrong as NoTree}
-use Rattle.trie.specs.declared.descent.Closest.{Closest}
-use Rattle.trie.specs.declared.descent.Closest.the-variants.{Leaf, Wrong as NoLeaf}
-use Rattle.trie.proofs.WalkLaws.{NoLink, no-link}
-use Rattle.iterator.specs.Walk.{Met, after, Sheet, sheet, isStopped, add, put, puts}
-use Rattle.iterator.specs.Page.{nothing, listedOf, blank, listed, listPast, listBeside, listUnder, onWalked, listFrom, listIn}
-use Rattle.iterator.specs.declared.walk.Stop.{Stop}
-use Rattle.iterator.specs.declared.walk.Stop.the-variants.{Going, Further, Wrong as WentWrong}
-use Rattle.iterator.specs.declared.walk.Progress.{Progress}
+use Rattle.trie_spec.specs.Walk.{depth, steps, linkIn, walk, near, first, Lies, Sound}
+use Rattle.trie_spec.specs.Writes.{Outcome, outcome, Did, onClosest}
+use Rattle.trie_spec.specs.declared.descent.Step.{Step}
+use Rattle.trie_spec.specs.declared.descent.Walked.{Walked}
+use Rattle.trie_spec.specs.declared.descent.Walked.the-variants.{At, Missing, Wrong as NoTree}
+use Rattle.trie_spec.specs.declared.descent.Closest.{Closest}
+use Rattle.trie_spec.specs.declared.descent.Closest.the-variants.{Leaf, Wrong as NoLeaf}
+use Rattle.trie_spec.proofs.WalkLaws.{NoLink, no-link}
+use Rattle.walk.specs.Walk.{Met, after, Sheet, sheet, isStopped, add, put, puts}
+use Rattle.iterator.specs.Page.{nothing, listedOf, blank, listPast, listBeside, listUnder, onWalked, listFrom, listIn}
+use Rattle.walk.specs.declared.walk.Stop.the-variants.{Going, Further, Wrong as WentWrong}
+use Rattle.walk.specs.declared.walk.Progress.{Progress}
 use Rattle.iterator.specs.declared.page.Listed.{Listed}
 use Rattle.iterator.specs.declared.page.Listed.the-variants.{Page, Wrong}
 

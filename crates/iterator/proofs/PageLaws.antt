@@ -1,19 +1,19 @@
 -- A page of an accepted store: the first entries under the prefix past the bound, and whether there are more. Assumes nothing.
-use Prim.Native.Nat.{ℕ, zero, suc, _+_, _-_, _*_, _≤_, _<_}
-use mathlib.Core.Path.{_≡_, refl, sym, ap, subst, _∙_}
+use Prim.Native.Nat.{ℕ, zero, suc, _+_, _-_, _*_, _≤_}
+use mathlib.Core.Path.{_≡_, refl, ap, _∙_}
 use mathlib.Core.Bool.{Bool, true, false, cond}
-use mathlib.Core.List.{List, [], _∷_}
+use mathlib.Core.List.{List, []}
 use mathlib.Core.Option.{Option, none, some}
 use native.Mathlib.Omega.{arith}
-use lib.Dec.{leb, eqb}
+use lib.Dec.{leb}
 use lib.ListN.{length, take, length-take}
-use borrow.Author.Tests.{le-leb, lt-leb, leb-true, leb-false, eq-eqb, ne-eqb}
-use Rattle.model.specs.Key.{keyLimit, startsWith}
+use borrow.Author.Tests.{le-leb, leb-true, leb-false, eq-eqb, ne-eqb}
+use Rattle.model.specs.Key.{startsWith}
 use Rattle.model.specs.Map.{Entry, keep, pick}
 use Rattle.model.specs.Nibble.{critical}
 use Rattle.model.specs.Numbers.{most}
 use Rattle.model.specs.Entry.{entriesBytes}
-use Rattle.model.specs.Picture.{Tree, listing, entries, Picture, closest}
+use Rattle.model.specs.Picture.{Tree, entries, Picture, closest}
 use Rattle.model.proofs.Bounds.{starts-zero, depth-bound}
 use Rattle.model.proofs.PageLaws.{page-last}
 use Rattle.model.proofs.Unique.{listing-some}
@@ -23,28 +23,24 @@ use Rattle.pictures.specs.Stored.{root, Holds}
 use Rattle.pictures.proofs.PageWalk.{Reaches, Reached, seek-reached, walk-is}
 use Rattle.pictures.proofs.Tally.{leaves-length}
 use Rattle.fields.specs.Part.{splice}
-use Rattle.fields.proofs.PartLaws.{splice-nil, length-splice}
-use Rattle.node.specs.Child.{linkOf}
+use Rattle.fields.proofs.PartLaws.{splice-nil}
 use Rattle.node.specs.Header.{headIn}
 use Rattle.node.specs.Leaf.{leafIn}
-use Rattle.node.specs.declared.child.Link.{Link}
-use Rattle.trie.specs.Accepted.{linkTo, memoryOf, Accepted}
-use Rattle.trie.specs.Walk.{depth, steps, onLinked, walk, near, first}
-use Rattle.trie.specs.Writes.{Outcome, outcome, onClosest}
-use Rattle.trie.specs.declared.descent.Spot.the-variants.{Root}
-use Rattle.trie.specs.declared.descent.Walked.{Walked}
-use Rattle.trie.specs.declared.descent.Closest.{Closest}
-use Rattle.trie.specs.declared.descent.Closest.the-variants.{Leaf}
-use Rattle.trie.proofs.AcceptedLaws.{few, inside, leaf-count, no-leaves, root-link}
-use Rattle.trie.proofs.HeldLaws.{Inside, walks, hits}
-use Rattle.iterator.specs.Walk.{Met, after, Sheet, isStopped, add, put, puts}
-use Rattle.iterator.specs.Page.{nothing, listedOf, blank, listed, listPast, listBeside, listUnder, onWalked, listFrom, listIn}
-use Rattle.iterator.specs.declared.walk.Stop.the-variants.{Going, Further}
+use Rattle.trie_spec.specs.Accepted.{linkTo, memoryOf, Accepted}
+use Rattle.trie_spec.specs.Walk.{depth, steps, walk, first}
+use Rattle.trie_spec.specs.Writes.{Outcome, outcome, onClosest}
+use Rattle.trie_spec.specs.declared.descent.Spot.the-variants.{Root}
+use Rattle.trie_spec.specs.declared.descent.Walked.{Walked}
+use Rattle.trie_spec.proofs.AcceptedLaws.{few, inside, leaf-count, no-leaves, root-link}
+use Rattle.trie_spec.proofs.HeldLaws.{Inside, walks, hits}
+use Rattle.walk.specs.Walk.{Met, puts}
+use Rattle.iterator.specs.Page.{nothing, blank, listed, listPast, listBeside, listUnder, onWalked, listFrom, listIn}
+use Rattle.walk.specs.declared.walk.Stop.the-variants.{Going, Further}
 use Rattle.iterator.specs.declared.page.Listed.{Listed}
 use Rattle.iterator.specs.declared.page.Listed.the-variants.{Page, Wrong}
-use Rattle.iterator.proofs.HeldLaws.{given, after-tree}
+use Rattle.walk.proofs.HeldLaws.{given, after-tree}
 use Rattle.iterator.proofs.SeekLaws.{Ends, seek-ends}
-use Rattle.iterator.proofs.TakeLaws.{take-given}
+use Rattle.walk.proofs.TakeLaws.{take-given}
 
 -- The page of n entries that these are chosen from.
 abbrev pub paged : ℕ → List Entry → List ℕ → Outcome Listed

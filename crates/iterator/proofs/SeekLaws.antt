@@ -1,12 +1,12 @@
 -- The way down by a prefix in a tree that the records hold: it ends where the tree's own does. Assumes nothing.
-use Prim.Native.Nat.{ℕ, zero, suc, _+_, _*_, _≤_, _<_, compare, Ordering}
-use mathlib.Core.Path.{_≡_, refl, sym, ap, subst, _∙_}
-use mathlib.Core.Logic.{_≢_, _⊎_, inl, inr}
+use Prim.Native.Nat.{ℕ, zero, suc, _+_, _*_, _≤_, _<_, Ordering}
+use mathlib.Core.Path.{_≡_, refl, sym, subst, _∙_}
+use mathlib.Core.Logic.{_⊎_, inl, inr}
 use mathlib.Core.List.{List}
 use mathlib.Core.Option.{Option, none, some}
 use native.Mathlib.Omega.{arith}
 use lib.ListN.{length}
-use Rattle.model.specs.Key.{keyLimit, onEqual}
+use Rattle.model.specs.Key.{keyLimit}
 use Rattle.model.specs.Map.{choose}
 use Rattle.model.specs.Nibble.{nibble}
 use Rattle.model.specs.Numbers.{most}
@@ -16,17 +16,16 @@ use Rattle.model.proofs.Compare.{Said, lower, same, higher, said, compare-self,
 use Rattle.pictures.specs.Prefix.{seek, seekK}
 use Rattle.pictures.specs.Stored.{toLeaf, toBranch, root, Holds, At, here, there, Lacks}
 use Rattle.pictures.proofs.Children.{tree-ind, holds-at, picture-at, at-or-lacks}
-use Rattle.node.specs.Branch.{childrenIn, linkedIn}
 use Rattle.node.specs.declared.child.BranchNo.{BranchNo}
 use Rattle.node.specs.declared.child.Linked.the-variants.{To, Absent}
-use Rattle.trie.specs.Accepted.{linkTo, memoryOf}
-use Rattle.trie.specs.Walk.{step, walk}
-use Rattle.trie.specs.declared.descent.Spot.{Spot}
-use Rattle.trie.specs.declared.descent.Spot.the-variants.{Under}
-use Rattle.trie.specs.declared.descent.Walked.{Walked}
-use Rattle.trie.specs.declared.descent.Walked.the-variants.{At as Reached, Missing}
-use Rattle.trie.proofs.WalkLaws.{walk-leaf, walk-stop, walk-step}
-use Rattle.trie.proofs.HeldLaws.{Inside, inside-at, link-at, link-lacks}
+use Rattle.trie_spec.specs.Accepted.{linkTo, memoryOf}
+use Rattle.trie_spec.specs.Walk.{step, walk}
+use Rattle.trie_spec.specs.declared.descent.Spot.{Spot}
+use Rattle.trie_spec.specs.declared.descent.Spot.the-variants.{Under}
+use Rattle.trie_spec.specs.declared.descent.Walked.{Walked}
+use Rattle.trie_spec.specs.declared.descent.Walked.the-variants.{At as Reached, Missing}
+use Rattle.trie_spec.proofs.WalkLaws.{walk-leaf, walk-stop, walk-step}
+use Rattle.trie_spec.proofs.HeldLaws.{Inside, inside-at, link-at, link-lacks}
 
 module _ (q : List ℕ) where
   seek-at : {s : ℕ} {u : Tree} {ks : Kids} → At s u ks → seekK q s ks ≡ seek q u

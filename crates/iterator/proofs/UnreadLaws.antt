@@ -1,7 +1,7 @@
 -- "Bytes past 128 x (capacity + 1) are neither read ..": two slices with the same header and the same blocks give the same page, whatever the bytes are.
 -- Assumes nothing.
 use Prim.Native.Nat.{ℕ, zero, suc, _+_, _*_, _<_}
-use mathlib.Core.Path.{_≡_, refl, sym, ap, ap₂, subst, _∙_}
+use mathlib.Core.Path.{_≡_, refl, ap, ap₂, subst, _∙_}
 use mathlib.Core.Bool.{Bool, true, false, cond}
 use mathlib.Core.List.{List, [], _∷_, _++_}
 use mathlib.Core.Option.{some}
@@ -21,18 +21,17 @@ use Rattle.node.specs.declared.child.Linked.{Linked}
 use Rattle.node.specs.declared.child.Linked.the-variants.{To, Absent, Wrong as WrongLink}
 use Rattle.node.specs.declared.header.Header.{Header}
 use Rattle.node.proofs.ChildLaws.{within}
-use Rattle.trie.specs.Walk.{depth, steps, linkIn, onLinked, onNode, walk, near, first, Lies}
-use Rattle.trie.specs.Writes.{Outcome, outcome, onClosest}
-use Rattle.trie.specs.declared.descent.Walked.{Walked}
-use Rattle.trie.specs.declared.descent.Walked.the-variants.{At, Missing, Wrong as NoTree}
-use Rattle.trie.specs.declared.descent.Closest.{Closest}
-use Rattle.trie.specs.declared.descent.Closest.the-variants.{Leaf, Wrong as NoLeaf}
-use Rattle.trie.proofs.WalkLaws.{linked-below}
-use Rattle.trie.proofs.KeepLaws.{walk-lies, Low, near-low}
-use Rattle.trie.proofs.UnreadLaws.{Alike, leaf-alike, children-alike, walk-alike, near-alike}
-use Rattle.iterator.specs.Walk.{entryIn, Met, nothingRight, kids, below, after, puts}
+use Rattle.trie_spec.specs.Walk.{depth, steps, linkIn, onLinked, onNode, walk, near, first, Lies}
+use Rattle.trie_spec.specs.Writes.{outcome, onClosest}
+use Rattle.trie_spec.specs.declared.descent.Walked.{Walked}
+use Rattle.trie_spec.specs.declared.descent.Walked.the-variants.{At, Missing, Wrong as NoTree}
+use Rattle.trie_spec.specs.declared.descent.Closest.{Closest}
+use Rattle.trie_spec.specs.declared.descent.Closest.the-variants.{Leaf, Wrong as NoLeaf}
+use Rattle.trie_spec.proofs.WalkLaws.{linked-below}
+use Rattle.trie_spec.proofs.KeepLaws.{walk-lies, Low, near-low}
+use Rattle.trie_spec.proofs.UnreadLaws.{Alike, leaf-alike, children-alike, walk-alike, near-alike}
+use Rattle.walk.specs.Walk.{entryIn, Met, nothingRight, kids, below, after, puts}
 use Rattle.iterator.specs.Page.{nothing, blank, listed, listBeside, listUnder, onWalked, listFrom, listIn}
-use Rattle.iterator.specs.declared.page.Listed.{Listed}
 use Rattle.iterator.specs.declared.page.Listed.the-variants.{Wrong}
 
 kids-same : (cap : ℕ) (g h : Link → List Met) → ((m : Link) → numberIn (m .child) < cap → g m ≡ h m) → (es : List Item) → kids cap g es ≡ kids cap h es

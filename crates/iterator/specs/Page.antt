@@ -12,13 +12,13 @@ use Rattle.node.specs.Child.{linkOf}
 use Rattle.node.specs.Leaf.{leafIn}
 use Rattle.node.specs.declared.child.Link.{Link}
 use Rattle.node.specs.declared.header.Header.{Header}
-use Rattle.trie.specs.Walk.{depth, steps, linkIn, onLinked, walk, near, first}
-use Rattle.trie.specs.Writes.{Outcome, outcome, onClosest}
-use Rattle.trie.specs.declared.descent.Walked.{Walked}
-use Rattle.trie.specs.declared.descent.Walked.the-variants.{At, Missing, Wrong as NoTree}
-use Rattle.iterator.specs.Walk.{after, Sheet, puts}
-use Rattle.iterator.specs.declared.walk.Stop.{Stop}
-use Rattle.iterator.specs.declared.walk.Stop.the-variants.{Going, Further, Wrong as WentWrong}
+use Rattle.trie_spec.specs.Walk.{depth, steps, linkIn, onLinked, walk, near, first}
+use Rattle.trie_spec.specs.Writes.{Outcome, outcome, onClosest}
+use Rattle.trie_spec.specs.declared.descent.Walked.{Walked}
+use Rattle.trie_spec.specs.declared.descent.Walked.the-variants.{At, Missing, Wrong as NoTree}
+use Rattle.walk.specs.Walk.{after, Sheet, puts}
+use Rattle.walk.specs.declared.walk.Stop.{Stop}
+use Rattle.walk.specs.declared.walk.Stop.the-variants.{Going, Further, Wrong as WentWrong}
 use Rattle.iterator.specs.declared.page.Listed.{Listed}
 use Rattle.iterator.specs.declared.page.Listed.the-variants.{Page, Wrong}
 

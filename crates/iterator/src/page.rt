@@ -1,19 +1,19 @@
 // A page: one way down to where the keys with the prefix stand, one to the closest leaf to the key that the page begins at, and a walk over what is given.
-use crate::walk::Progress;
-use crate::walk::Stop;
-use crate::walk::emit_after;
 use node::child::LeafNo;
 use node::child::Link;
 use node::child::Linked;
 use node::child::link_of;
 use node::header::Header;
-use trie::descent::Closest;
 use trie::descent::DEPTH;
-use trie::descent::Walked;
 use trie::descent::descend;
 use trie::descent::find_closest_leaf;
 use trie::keys::critical;
 use trie::keys::nibble;
+use trie_spec::descent::Closest;
+use trie_spec::descent::Walked;
+use walk::walk::Progress;
+use walk::walk::Stop;
+use walk::walk::emit_after;
 ghost use mathlib.Core.Path.{_≡_};
 ghost use Prim.Native.Nat.{_≤_, _<_, _*_};
 ghost use lib.ListN.{length};
@@ -24,7 +24,7 @@ ghost use Rattle.pictures.specs.After.{passes};
 ghost use Rattle.node.specs.Layout.{start};
 ghost use Rattle.node.specs.Child.{numberIn};
 ghost use Rattle.node.specs.Leaf.{leafIn};
-ghost use Rattle.trie.specs.Writes.{Did};
+ghost use Rattle.trie_spec.specs.Writes.{Did};
 ghost use Rattle.iterator.specs.Page.{nothing, listedOf, listPast, listUnder, listFrom, listIn};
 
 pub enum Listed {

@@ -3,5 +3,3 @@ pub mod Child
 pub mod Header
 pub mod Leaf
 pub mod Branch
-pub mod Chain
-pub mod Create

@@ -1,6 +1,6 @@
 -- The walk from a key on gives the entries above that key, and all of them.
 -- Assumes nothing.
-use Prim.Native.Nat.{ℕ, suc, _*_, _/_, _≤_, _<_, compare, Ordering, Ordering·lt, Ordering·eq, Ordering·gt}
+use Prim.Native.Nat.{ℕ, suc, _*_, _≤_, _<_, compare, Ordering}
 use mathlib.Core.Path.{_≡_, refl, sym, ap, subst, _∙_}
 use mathlib.Core.Logic.{_≢_}
 use mathlib.Core.Bool.{Bool, true, false}
@@ -13,9 +13,9 @@ use borrow.Author.Tests.{le-leb, lt-leb}
 use Rattle.model.specs.Key.{order, onEqual}
 use Rattle.model.specs.Map.{Entry, keep, pick, choose}
 use Rattle.model.specs.Nibble.{nibble, critical, Agree}
-use Rattle.model.specs.Picture.{Tree, leaf, branch, Kids, end, kid, listing, listings, Every, Everys, SlotsRise, Below, Picture, Pictures, Descent, closest, closestK, first}
+use Rattle.model.specs.Picture.{Tree, leaf, branch, Kids, end, kid, listing, listings, Everys, SlotsRise, Picture, Pictures, Descent, closest, closestK, first}
 use Rattle.model.proofs.Compare.{Said, lower, same, higher, said}
-use Rattle.model.proofs.KeyLaws.{agree-sym, agree-trans, agree-less, order-lt, order-gt, order-eq, key-discrete, critical-agree, critical-differs, critical-order, critical-only}
+use Rattle.model.proofs.KeyLaws.{agree-sym, agree-trans, agree-less, order-lt, order-gt, key-discrete, critical-agree, critical-differs, critical-order, critical-only}
 use Rattle.model.proofs.CriticalAt.{critical-left}
 use Rattle.model.proofs.NibbleAt.{nibble-past, nibble-within}
 use Rattle.model.proofs.Keep.{keep-one, keep-append}

@@ -1,7 +1,7 @@
 -- The walk of a page gives what document 01 says that a page chooses from: the matching entries above the after-key.
 -- Assumes nothing.
-use Prim.Native.Nat.{ℕ, _*_, _≤_, _<_, compare, Ordering, Ordering·lt, Ordering·eq, Ordering·gt}
-use mathlib.Core.Path.{_≡_, refl, sym, ap, subst, _∙_}
+use Prim.Native.Nat.{ℕ, _*_, _≤_, Ordering, Ordering·lt, Ordering·eq, Ordering·gt}
+use mathlib.Core.Path.{_≡_, refl, sym, ap, _∙_}
 use mathlib.Core.Bool.{Bool, true, false, true≢false}
 use mathlib.Core.List.{List, [], _∷_}
 use mathlib.Core.Option.{Option, none, some}
@@ -18,7 +18,7 @@ use Rattle.model.proofs.StartsLaws.{starts-same}
 use Rattle.model.proofs.TreeLaws.{From as FromSlot, kids-from, everys-map}
 use Rattle.model.proofs.Closest.{closest-every}
 use Rattle.pictures.specs.Prefix.{seek, seekK, found}
-use Rattle.pictures.specs.After.{passes, afterT, afterIn, bound, boundToo}
+use Rattle.pictures.specs.After.{passes, afterIn, bound, boundToo}
 use Rattle.pictures.proofs.PrefixLaws.{prefix-found}
 use Rattle.pictures.proofs.AfterLaws.{after-is}
 

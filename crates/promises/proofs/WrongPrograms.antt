@@ -7,7 +7,7 @@ use mathlib.Core.List.{List, [], _∷_}
 use native.Mathlib.Omega.{arith}
 use lib.ListN.{length, replicate, length-replicate}
 use Rattle.model.specs.Key.{order}
-use Rattle.model.specs.Numbers.{valueBound, limitBound, entryLimit, headerSize, blockSize}
+use Rattle.model.specs.Numbers.{valueBound, entryLimit, headerSize, blockSize}
 use Rattle.model.specs.Nibble.{nibble, critical}
 use Rattle.model.specs.Page.{Mode, inclusive}
 use Rattle.promises.specs.Meaning.{Layout, Lawful, Meaning, Means, Reply}

@@ -22,7 +22,7 @@ use index::get::Got;
 use index::insert::Inserted;
 use index::is_empty::Empty;
 use index::set_limit::Limited;
-use node::create::Made;
+use records::create::Made;
 
 fn made(r: Made) -> u8 {
     match r {

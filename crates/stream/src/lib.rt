@@ -1,7 +1,7 @@
 // Standard input, piece by piece, and the answers to its lines on standard output.
-use command::pieces::Held;
 use command::turns::end_input;
 use command::turns::take_turn;
+use line::pieces::Held;
 ghost use mathlib.Core.Path.{_≡_};
 ghost use Prim.Native.Nat.{_≤_};
 ghost use lib.ListN.{length};

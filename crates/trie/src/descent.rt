@@ -9,46 +9,21 @@ use node::child::LeafNo;
 use node::child::Link;
 use node::child::Linked;
 use node::layout::KEY_LIMIT;
+pub use trie_spec::descent::Closest;
+pub use trie_spec::descent::Spot;
+pub use trie_spec::descent::Step;
+pub use trie_spec::descent::Walked;
 ghost use mathlib.Core.Path.{_≡_};
 ghost use Prim.Native.Nat.{_≤_, _<_};
 ghost use lib.ListN.{length};
 ghost use Rattle.node.specs.Layout.{start};
 ghost use Rattle.node.specs.Child.{numberIn};
-ghost use Rattle.trie.specs.Walk.{steps, walk, near, first, Lies, Sound};
+ghost use Rattle.trie_spec.specs.Walk.{steps, walk, near, first, Lies, Sound};
 
 // A path of a picture has a branch for each position at most, and ends at a leaf.
 pub const DEPTH: usize = 2 * KEY_LIMIT;
 
 pub const STEPS: usize = DEPTH + 1;
-
-// Where a link stands: in the header, or in a slot of a branch.
-pub enum Spot {
-    Root,
-    Under(BranchNo, u8),
-}
-
-// The last step of a descent: the child that it led to, that child's position, where its link stands, and where the link to the branch above it stands.
-pub struct Step {
-    pub child: Child,
-    pub position: u8,
-    pub at: Spot,
-    pub above: Spot,
-}
-
-pub enum Walked {
-    // the node met, and the step to it
-    At(Child, Step),
-    // the branch lacks the slot
-    Missing(BranchNo, u8),
-    // the records are no tree, or a deeper one than a picture
-    Wrong,
-}
-
-// The closest leaf, and how many branches lie above it.
-pub enum Closest {
-    Leaf(LeafNo, usize),
-    Wrong,
-}
 
 pub fn descend(store: &[u8], capacity: u16, key: &[u8], root: Link, stop: usize) -> Walked
     requires { ⌜ (start capacity ≤ length (now store)) × (numberIn (root .child) < capacity) ⌝ }

@@ -1,6 +1,4 @@
 // Exact lookup: one descent, and the leaf's key compared.
-use crate::descent::Step;
-use crate::descent::Walked;
 use crate::descent::descend;
 use node::child::Child;
 use node::child::LeafNo;
@@ -8,24 +6,18 @@ use node::child::Link;
 use node::child::Linked;
 use node::child::link_of;
 use node::header::Header;
+use trie_spec::descent::Step;
+use trie_spec::descent::Walked;
+pub use trie_spec::find::Exact;
 ghost use mathlib.Core.Path.{_≡_};
 ghost use Prim.Native.Nat.{_≤_, _<_};
 ghost use lib.ListN.{length};
 ghost use Rattle.node.specs.Layout.{start};
 ghost use Rattle.node.specs.Child.{numberIn};
-ghost use Rattle.trie.specs.Find.{matched, findFrom, findIn, Stands};
+ghost use Rattle.trie_spec.specs.Find.{matched, findFrom, findIn, Stands};
 
 // Past every position.
 const NO_STOP: usize = 256;
-
-// What an exact lookup finds.
-pub enum Exact {
-    // the leaf, and the last step of the descent to it
-    Leaf(LeafNo, Step),
-    Absent,
-    // the store holds no tree
-    Wrong,
-}
 
 // A leaf that a descent met: the one looked for, or another.
 fn matching(store: &[u8], capacity: u16, key: &[u8], met: Child, step: Step) -> Exact

@@ -1,18 +1,10 @@
 // Insertion: the closest leaf, the critical position, and a second descent to where the new leaf goes.
-use crate::descent::Closest;
-use crate::descent::Spot;
-use crate::descent::Step;
-use crate::descent::Walked;
 use crate::descent::descend;
 use crate::descent::find_closest_leaf;
 use crate::keys::critical;
 use crate::keys::nibble;
 use crate::relink::relink;
 use node::branch::make_branch;
-use node::chain::TakenBranch;
-use node::chain::TakenLeaf;
-use node::chain::take_branch;
-use node::chain::take_leaf;
 use node::child::BranchNo;
 use node::child::Child;
 use node::child::LeafNo;
@@ -22,6 +14,15 @@ use node::child::link_of;
 use node::header::Header;
 use node::leaf::set_value;
 use node::leaf::write_leaf;
+use records::chain::TakenBranch;
+use records::chain::TakenLeaf;
+use records::chain::take_branch;
+use records::chain::take_leaf;
+use trie_spec::descent::Closest;
+use trie_spec::descent::Spot;
+use trie_spec::descent::Step;
+use trie_spec::descent::Walked;
+pub use trie_spec::insert::Put;
 ghost use mathlib.Core.Path.{_≡_};
 ghost use Prim.Native.Nat.{_≤_, _<_};
 ghost use lib.ListN.{length};
@@ -31,17 +32,8 @@ ghost use Rattle.node.specs.Layout.{start, Room};
 ghost use mathlib.Core.Logic.{_≢_};
 ghost use Rattle.node.specs.Child.{numberIn};
 ghost use Rattle.node.specs.Leaf.{leafIn};
-ghost use Rattle.trie.specs.Walk.{Within, Lies};
-ghost use Rattle.trie.specs.Writes.{Did, hung, joined, planted, forked, placed, putBeside, putNear, putUnder, insertIn};
-
-pub enum Put {
-    New,
-    Replaced,
-    Height,
-    Full,
-    // the store holds no tree
-    Wrong,
-}
+ghost use Rattle.trie_spec.specs.Walk.{Within, Lies};
+ghost use Rattle.trie_spec.specs.Writes.{Did, hung, joined, planted, forked, placed, putBeside, putNear, putUnder, insertIn};
 
 // A new leaf, whose link goes to a spot that has none.
 fn hang(store: &mut [u8], h: Header, key: &[u8], value: u32, spot: Spot) -> Put

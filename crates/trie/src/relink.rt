@@ -1,18 +1,18 @@
 // A link written where one stands, with the header: what every insertion and many removals end in.
-use crate::descent::Spot;
 use node::branch::set_child;
 use node::child::Link;
 use node::child::item_of;
 use node::header::Header;
 use node::header::put_head;
+use trie_spec::descent::Spot;
 ghost use mathlib.Core.Path.{_≡_};
 ghost use Prim.Native.Nat.{_≤_, _<_};
 ghost use lib.ListN.{length};
 ghost use Rattle.model.specs.Numbers.{most};
 ghost use Rattle.node.specs.Layout.{start};
 ghost use Rattle.node.specs.Child.{numberIn};
-ghost use Rattle.trie.specs.Walk.{Within};
-ghost use Rattle.trie.specs.Writes.{withRoot, relinked};
+ghost use Rattle.trie_spec.specs.Walk.{Within};
+ghost use Rattle.trie_spec.specs.Writes.{withRoot, relinked};
 
 // The header with another root.
 pub fn with_root(h: Header, root: u32) -> Header

@@ -1,24 +1,24 @@
 // Removal of a leaf that a descent met. "Remove takes the leaf out; a branch left with one child is replaced by that child."
-use crate::descent::Spot;
 use crate::relink::relink;
 use crate::relink::with_root;
 use node::branch::child_count;
 use node::branch::other_child;
 use node::branch::remove_child;
-use node::chain::give_branch;
-use node::chain::give_leaf;
 use node::child::BranchNo;
 use node::child::LeafNo;
 use node::child::Linked;
 use node::header::Header;
 use node::header::put_head;
 use node::layout::NO_ROOT;
+use records::chain::give_branch;
+use records::chain::give_leaf;
+use trie_spec::descent::Spot;
 ghost use Prim.Native.Nat.{_≤_, _<_};
 ghost use lib.ListN.{length};
 ghost use Rattle.model.specs.Numbers.{most};
 ghost use Rattle.node.specs.Layout.{start};
-ghost use Rattle.trie.specs.Walk.{Within};
-ghost use Rattle.trie.specs.Writes.{Did, removeUnder, liftUnder};
+ghost use Rattle.trie_spec.specs.Walk.{Within};
+ghost use Rattle.trie_spec.specs.Writes.{Did, removeUnder, liftUnder};
 
 // The leaf and its branch of two children go, and the other child takes the branch's place.
 fn lift(store: &mut [u8], h: Header, leaf: LeafNo, branch: BranchNo, slot: u8, above: Spot) -> bool

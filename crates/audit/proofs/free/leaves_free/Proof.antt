@@ -1,7 +1,7 @@
 -- `audit::free::leaves_free` meets its contract. The invariant: the rest of the chain from here is the whole from its first record. Assumes nothing.
 use Prim.Native.Nat.{_-_, _≤_}
 use mathlib.Core.Path.{_≡_}
-use Rattle.node.specs.Chain.{leaves}
+use Rattle.records.specs.Chain.{leaves}
 use Rattle.audit.specs.Accepts.{chainRight}
 use Rattle.audit.proofs.Contracts.{chain-end, chain-out, chain-used, chain-next, record-in}
 use borrow.Author.Needs.{needs}

@@ -5,7 +5,7 @@ use mathlib.Core.Path.{_≡_}
 use mathlib.Core.Logic.{⊎-elim}
 use borrow.Author.Needs.{needs}
 use Rattle.model.specs.Nibble.{slotCount}
-use Rattle.trie.proofs.WalkLaws.{branch-room, leaf-below, link-below}
+use Rattle.trie_spec.proofs.WalkLaws.{branch-room, leaf-below, link-below}
 use Rattle.audit.specs.Walk.{none-yet, Sound}
 use Rattle.audit.proofs.NodeLaws.{rest, node-leaf, node-deep, node-low, node-end, node-wrong, node-none, node-stop, node-going, left-falls, sound-going, sound-stays}
 use Prim.Native.Nat.{ℕ, _+_, _-_, _<_}

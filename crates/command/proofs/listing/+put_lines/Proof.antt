@@ -10,7 +10,7 @@ use Rattle.command.proofs.listing.put_lines.Reads as put-lines
 use Rattle.command.proofs.listing.put_lines.Kinds as put-lines-kinds
 use Rattle.command.proofs.listing.+put_lines.Lts-put_lines as put-lines-lts
 use Rattle.command.proofs.listing.size_of.Reads as size-of-reads
-use Rattle.command.proofs.writing.put_entry.Reads as put-entry-reads
+use Rattle.line.proofs.writing.put_entry.Reads as put-entry-reads
 use Rattle.fields.proofs.big.read4.Reads as read4-reads
 use Rattle.command.proofs.listing.+put_lines.{statement}
 use Rattle.command.proofs.listing.+put_lines.Tie.{close}

@@ -1,6 +1,5 @@
 -- `command::listing::answer_list` writes a listing and its `end`. Assumes nothing.
-use native.Mathlib.Omega.{arith}
-use lib.ListN.{length-take, length-drop, length-append}
+use lib.ListN.{length-take}
 use borrow.Author.Needs.{needs}
 use Rattle.command.proofs.ListedLaws.{end-within, end-room, list-answered}
 use Rattle.command.proofs.listing.answer_list.Statement.{statement}
@@ -8,7 +7,7 @@ use Rattle.command.proofs.listing.answer_list.Tie as tie
 use Rattle.command.proofs.listing.answer_list.Reads as reads
 use Rattle.command.proofs.listing.answer_list.Lts as lts
 use Rattle.command.proofs.listing.list_all.Reads as list-all-reads
-use Rattle.command.proofs.writing.put_answer.Reads as put-answer-reads
+use Rattle.line.proofs.writing.put_answer.Reads as put-answer-reads
 
 -- src/listing.rt:203:43
 slice-relend-prefix-list-all : tie.Need-slice-relend-prefix-list-all

@@ -1,5 +1,4 @@
 -- `command::listing::list_all` writes a whole listing. Assumes nothing.
-use native.Mathlib.Omega.{arith}
 use borrow.Author.Needs.{needs}
 use Rattle.command.proofs.RestLaws.{all-last, all-more}
 use Rattle.command.proofs.listing.list_all.Statement.{statement}

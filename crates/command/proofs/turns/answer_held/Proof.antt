@@ -5,7 +5,7 @@ use Rattle.command.proofs.turns.answer_held.Statement.{statement}
 use Rattle.command.proofs.turns.answer_held.Tie as tie
 use Rattle.command.proofs.turns.answer_held.Reads as reads
 use Rattle.command.proofs.turns.answer_held.Lts as lts
-use Rattle.command.proofs.pieces.parse_held.Reads as parse-held-reads
+use Rattle.line.proofs.pieces.parse_held.Reads as parse-held-reads
 use Rattle.command.proofs.turns.answer_parsed.Reads as answer-parsed-reads
 
 -- src/turns.rt:46:9

@@ -9,7 +9,7 @@ use Rattle.command.proofs.answer.answer_delete.Reads as answer-delete-r
 use Rattle.command.proofs.answer.answer_get.Reads as answer-get-reads
 use Rattle.command.proofs.answer.answer_insert.Reads as answer-insert-reads
 use Rattle.command.proofs.listing.answer_list.Reads as answer-list-reads
-use Rattle.command.proofs.writing.put_answer.Reads as put-answer-reads
+use Rattle.line.proofs.writing.put_answer.Reads as put-answer-reads
 
 -- src/turns.rt:30:24
 enum-known-parsed : tie.Need-enum-known-parsed

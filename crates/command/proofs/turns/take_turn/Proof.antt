@@ -5,7 +5,7 @@ use Rattle.command.proofs.turns.take_turn.Statement.{statement}
 use Rattle.command.proofs.turns.take_turn.Tie as tie
 use Rattle.command.proofs.turns.take_turn.Reads as reads
 use Rattle.command.proofs.turns.take_turn.Lts as lts
-use Rattle.command.proofs.pieces.take_line.Reads as take-line-reads
+use Rattle.line.proofs.pieces.take_line.Reads as take-line-reads
 use Rattle.command.proofs.turns.answer_held.Reads as answer-held-reads
 
 -- src/turns.rt:69:11

@@ -1,5 +1,5 @@
 -- `index::check::check` meets its promise: by the two parts of what `audit::check` ensures. Assumes nothing.
-use Rattle.index.proofs.CheckLaws.{check-promise}
+use Rattle.index_spec.proofs.CheckLaws.{check-promise}
 use borrow.Author.Needs.{needs}
 use Rattle.index.proofs.check.check.Statement.{statement}
 use Rattle.index.proofs.check.check.Tie as tie

@@ -1,6 +1,6 @@
 -- `index::create::create` meets its promise: by what the bytes are afterwards, in both cases of the length. Assumes nothing.
-use Rattle.index.proofs.Contracts.{create-promise}
-use Rattle.index.proofs.WayLaws.{create-is}
+use Rattle.index_spec.proofs.Contracts.{create-promise}
+use Rattle.index_spec.proofs.WayLaws.{create-is}
 use borrow.Author.Needs.{needs}
 use Rattle.index.proofs.create.create.Statement.{statement}
 use Rattle.index.proofs.create.create.Tie as tie

@@ -1,7 +1,7 @@
 -- `index::get::get` meets its contract: by the three ways out: a wrong header, a key that is too long, and what the lookup says. Assumes nothing.
-use Rattle.index.proofs.HeadLaws.{blocks}
-use Rattle.index.proofs.CallLaws.{get-bad, get-long, get-done}
-use Rattle.index.proofs.WayLaws.{get-is-bad, get-is-long, get-is-done}
+use Rattle.index_spec.proofs.HeadLaws.{blocks}
+use Rattle.index_spec.proofs.CallLaws.{get-bad, get-long, get-done}
+use Rattle.index_spec.proofs.WayLaws.{get-is-bad, get-is-long, get-is-done}
 use borrow.Author.Needs.{needs}
 use Rattle.index.proofs.get.get.Statement.{statement}
 use Rattle.index.proofs.get.get.Tie as tie

@@ -1,6 +1,6 @@
 -- `index::get::get_in` meets its contract: by whether the lookup found a leaf. Assumes nothing.
-use Rattle.index.proofs.CallLaws.{found-room}
-use Rattle.index.proofs.WayLaws.{refused-got, found-got}
+use Rattle.index_spec.proofs.CallLaws.{found-room}
+use Rattle.index_spec.proofs.WayLaws.{refused-got, found-got}
 use borrow.Author.Needs.{needs}
 use Rattle.index.proofs.get.get_in.Statement.{statement}
 use Rattle.index.proofs.get.get_in.Tie as tie

@@ -1,7 +1,7 @@
 -- `index::insert::insert` meets its contract: by the three ways out: a wrong header, a key that is too long, and what the trie's insertion says. Assumes nothing.
-use Rattle.index.proofs.HeadLaws.{blocks, blocks-few}
-use Rattle.index.proofs.CallLaws.{insert-bad, insert-long, insert-done}
-use Rattle.index.proofs.WayLaws.{insert-is-bad, insert-is-long, insert-is-done}
+use Rattle.index_spec.proofs.HeadLaws.{blocks, blocks-few}
+use Rattle.index_spec.proofs.CallLaws.{insert-bad, insert-long, insert-done}
+use Rattle.index_spec.proofs.WayLaws.{insert-is-bad, insert-is-long, insert-is-done}
 use borrow.Author.Needs.{needs}
 use Rattle.index.proofs.insert.insert.Statement.{statement}
 use Rattle.index.proofs.insert.insert.Tie as tie

@@ -1,5 +1,5 @@
 -- `index::is_empty::empty_of` meets its contract: by the two cases of the test. Assumes nothing.
-use Rattle.index.proofs.Contracts.{empty-yes, empty-no}
+use Rattle.index_spec.proofs.Contracts.{empty-yes, empty-no}
 use borrow.Author.Needs.{needs}
 use Rattle.index.proofs.is_empty.empty_of.Statement.{statement}
 use Rattle.index.proofs.is_empty.empty_of.Tie as tie

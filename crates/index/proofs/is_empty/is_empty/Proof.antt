@@ -1,6 +1,6 @@
 -- `index::is_empty::is_empty` meets its contract: by the two answers of the header's test. Assumes nothing.
-use Rattle.index.proofs.Contracts.{empty-good, empty-bad}
-use Rattle.index.proofs.WayLaws.{empty-is-bad, empty-is-done}
+use Rattle.index_spec.proofs.Contracts.{empty-good, empty-bad}
+use Rattle.index_spec.proofs.WayLaws.{empty-is-bad, empty-is-done}
 use borrow.Author.Needs.{needs}
 use Rattle.index.proofs.is_empty.is_empty.Statement.{statement}
 use Rattle.index.proofs.is_empty.is_empty.Tie as tie

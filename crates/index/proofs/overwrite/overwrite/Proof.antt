@@ -1,7 +1,7 @@
 -- `index::overwrite::overwrite` meets its contract: by the three ways out: a wrong header, a key that is too long, and what the lookup says. Assumes nothing.
-use Rattle.index.proofs.HeadLaws.{blocks}
-use Rattle.index.proofs.CallLaws.{overwrite-bad, overwrite-long, overwrite-done}
-use Rattle.index.proofs.WayLaws.{overwrite-is-bad, overwrite-is-long, overwrite-is-done}
+use Rattle.index_spec.proofs.HeadLaws.{blocks}
+use Rattle.index_spec.proofs.CallLaws.{overwrite-bad, overwrite-long, overwrite-done}
+use Rattle.index_spec.proofs.WayLaws.{overwrite-is-bad, overwrite-is-long, overwrite-is-done}
 use borrow.Author.Needs.{needs}
 use Rattle.index.proofs.overwrite.overwrite.Statement.{statement}
 use Rattle.index.proofs.overwrite.overwrite.Tie as tie

@@ -1,6 +1,6 @@
 -- `index::overwrite::overwrite_in` meets its contract: by whether the lookup found a leaf. Assumes nothing.
-use Rattle.index.proofs.CallLaws.{found-room}
-use Rattle.index.proofs.WayLaws.{refused-overwritten, found-overwritten}
+use Rattle.index_spec.proofs.CallLaws.{found-room}
+use Rattle.index_spec.proofs.WayLaws.{refused-overwritten, found-overwritten}
 use borrow.Author.Needs.{needs}
 use Rattle.index.proofs.overwrite.overwrite_in.Statement.{statement}
 use Rattle.index.proofs.overwrite.overwrite_in.Tie as tie

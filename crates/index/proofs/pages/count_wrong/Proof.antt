@@ -1,5 +1,5 @@
 -- `index::pages::count_wrong` meets its contract: by the three tests. Assumes nothing.
-use Rattle.index.proofs.PageLaws.{count-none, count-many, count-room}
+use Rattle.index_spec.proofs.PageLaws.{count-none, count-many, count-room}
 use borrow.Author.Needs.{needs}
 use Rattle.index.proofs.pages.count_wrong.Statement.{statement}
 use Rattle.index.proofs.pages.count_wrong.Tie as tie

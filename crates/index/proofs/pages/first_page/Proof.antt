@@ -1,6 +1,6 @@
 -- `index::pages::first_page` meets its contract: by the ways out, in the order of the tests. Assumes nothing.
-use Rattle.index.proofs.HeadLaws.{blocks}
-use Rattle.index.proofs.PageLaws.{first-bad, first-is-bad, first-long, first-is-long, first-count, first-is-count, first-done, first-is-done, room-enough}
+use Rattle.index_spec.proofs.HeadLaws.{blocks}
+use Rattle.index_spec.proofs.PageLaws.{first-bad, first-is-bad, first-long, first-is-long, first-count, first-is-count, first-done, first-is-done, room-enough}
 use borrow.Author.Needs.{needs}
 use Rattle.index.proofs.pages.first_page.Statement.{statement}
 use Rattle.index.proofs.pages.first_page.Tie as tie

@@ -1,5 +1,5 @@
 -- `index::pages::is_below` meets its contract: by the nibbles at the critical position. Assumes nothing.
-use Rattle.index.proofs.PageLaws.{below-is}
+use Rattle.index_spec.proofs.PageLaws.{below-is}
 use borrow.Author.Needs.{needs}
 use Rattle.index.proofs.pages.is_below.Statement.{statement}
 use Rattle.index.proofs.pages.is_below.Tie as tie

@@ -1,5 +1,5 @@
 -- `index::pages::list_after` meets its contract: by where the page begins. Assumes nothing.
-use Rattle.index.proofs.PageLaws.{after-inclusive, after-lower, after-higher}
+use Rattle.index_spec.proofs.PageLaws.{after-inclusive, after-lower, after-higher}
 use borrow.Author.Needs.{needs}
 use Rattle.index.proofs.pages.list_after.Statement.{statement}
 use Rattle.index.proofs.pages.list_after.Tie as tie

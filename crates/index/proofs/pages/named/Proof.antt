@@ -1,5 +1,5 @@
 -- `index::pages::named` meets its contract: by the two answers of the walk. Assumes nothing.
-use Rattle.index.proofs.PageLaws.{named-page}
+use Rattle.index_spec.proofs.PageLaws.{named-page}
 use borrow.Author.Needs.{needs}
 use Rattle.index.proofs.pages.named.Statement.{statement}
 use Rattle.index.proofs.pages.named.Tie as tie

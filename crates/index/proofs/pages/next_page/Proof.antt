@@ -1,6 +1,6 @@
 -- `index::pages::next_page` meets its contract: by the ways out, in the order of the tests. Assumes nothing.
-use Rattle.index.proofs.HeadLaws.{blocks}
-use Rattle.index.proofs.PageLaws.{next-bad, next-is-bad, next-long, next-is-long, after-long, after-is-long, next-count, next-is-count, next-done, next-is-done, room-enough}
+use Rattle.index_spec.proofs.HeadLaws.{blocks}
+use Rattle.index_spec.proofs.PageLaws.{next-bad, next-is-bad, next-long, next-is-long, after-long, after-is-long, next-count, next-is-count, next-done, next-is-done, room-enough}
 use borrow.Author.Needs.{needs}
 use Rattle.index.proofs.pages.next_page.Statement.{statement}
 use Rattle.index.proofs.pages.next_page.Tie as tie

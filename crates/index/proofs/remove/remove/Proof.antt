@@ -1,7 +1,7 @@
 -- `index::remove::remove` meets its contract: by the three ways out: a wrong header, a key that is too long, and what the lookup says. Assumes nothing.
-use Rattle.index.proofs.HeadLaws.{blocks, blocks-few}
-use Rattle.index.proofs.CallLaws.{remove-bad, remove-long, remove-done}
-use Rattle.index.proofs.WayLaws.{remove-is-bad, remove-is-long, remove-is-done}
+use Rattle.index_spec.proofs.HeadLaws.{blocks, blocks-few}
+use Rattle.index_spec.proofs.CallLaws.{remove-bad, remove-long, remove-done}
+use Rattle.index_spec.proofs.WayLaws.{remove-is-bad, remove-is-long, remove-is-done}
 use borrow.Author.Needs.{needs}
 use Rattle.index.proofs.remove.remove.Statement.{statement}
 use Rattle.index.proofs.remove.remove.Tie as tie

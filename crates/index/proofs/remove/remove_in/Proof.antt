@@ -1,6 +1,6 @@
 -- `index::remove::remove_in` meets its contract: by whether the lookup found a leaf, and by what the trie's removal says. Assumes nothing.
-use Rattle.index.proofs.CallLaws.{found-below, found-at, found-above}
-use Rattle.index.proofs.WayLaws.{refused-removed, found-removed, unfit-removed}
+use Rattle.index_spec.proofs.CallLaws.{found-below, found-at, found-above}
+use Rattle.index_spec.proofs.WayLaws.{refused-removed, found-removed, unfit-removed}
 use borrow.Author.Needs.{needs}
 use Rattle.index.proofs.remove.remove_in.Statement.{statement}
 use Rattle.index.proofs.remove.remove_in.Tie as tie

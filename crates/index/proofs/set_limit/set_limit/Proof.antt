@@ -1,6 +1,6 @@
 -- `index::set_limit::set_limit` meets its contract: by the two answers of the header's test. Assumes nothing.
-use Rattle.index.proofs.Contracts.{limit-room, limit-good, limit-bad}
-use Rattle.index.proofs.WayLaws.{limit-is-bad, limit-is-done}
+use Rattle.index_spec.proofs.Contracts.{limit-room, limit-good, limit-bad}
+use Rattle.index_spec.proofs.WayLaws.{limit-is-bad, limit-is-done}
 use borrow.Author.Needs.{needs}
 use Rattle.index.proofs.set_limit.set_limit.Statement.{statement}
 use Rattle.index.proofs.set_limit.set_limit.Tie as tie

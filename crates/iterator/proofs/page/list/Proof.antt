@@ -1,5 +1,5 @@
 -- `iterator::page::list` meets its contract: by the ways out: an empty store, a root link that leads nowhere, and a root. Assumes nothing.
-use Rattle.trie.proofs.FindLaws.{root-below}
+use Rattle.trie_spec.proofs.FindLaws.{root-below}
 use Rattle.iterator.proofs.PageContracts.{page-none, page-lost, page-rooted}
 use borrow.Author.Needs.{needs}
 use Rattle.iterator.proofs.page.list.Statement.{statement}

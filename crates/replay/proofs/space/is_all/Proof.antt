@@ -1,6 +1,5 @@
 -- `replay::space::is_all` is safe and ends. Assumes nothing.
-use Prim.Native.Nat.{_-_, _≤_, _<_}
-use mathlib.Core.Path.{_≡_}
+use Prim.Native.Nat.{_-_, _≤_}
 use lib.ListN.{length}
 use borrow.Author.Needs.{needs}
 use Rattle.replay.proofs.space.is_all.Statement.{statement}

@@ -1,9 +1,9 @@
 -- `trie::descent::descend` meets its contract: the invariant is that the steps left lead from the present step to where those from the first one lead. Assumes nothing.
 use Rattle.node.specs.Child.{numberIn}
-use Rattle.trie.specs.Walk.{steps, walk, Within}
+use Rattle.trie_spec.specs.Walk.{steps, walk, Within}
 use mathlib.Core.Path.{_≡_}
 use Prim.Native.Nat.{_≤_, _<_}
-use Rattle.trie.proofs.WalkLaws.{same-leaf, same-branch, met-end, met-leaf, met-stop, met-missing, met-wrong, met-next, branch-room, branch-below, link-below, slot-fits}
+use Rattle.trie_spec.proofs.WalkLaws.{same-leaf, same-branch, met-end, met-leaf, met-stop, met-missing, met-wrong, met-next, branch-room, branch-below, link-below, slot-fits}
 use borrow.Author.Needs.{needs}
 use Rattle.trie.proofs.descent.descend.Statement.{statement}
 use Rattle.trie.proofs.descent.descend.Tie as tie

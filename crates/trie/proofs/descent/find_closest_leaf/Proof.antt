@@ -1,9 +1,9 @@
 -- `trie::descent::find_closest_leaf` meets its contract: the invariant is that the steps left lead from the present link to the leaf that those from the root lead to. Assumes nothing.
 use Rattle.node.specs.Child.{numberIn}
-use Rattle.trie.specs.Walk.{steps, near}
+use Rattle.trie_spec.specs.Walk.{steps, near}
 use mathlib.Core.Path.{_≡_}
-use Prim.Native.Nat.{_≤_, _<_, _+_}
-use Rattle.trie.proofs.WalkLaws.{close-end, close-leaf, close-missing, close-wrong, close-next, branch-room, near-below, leaf-below, slot-fits}
+use Prim.Native.Nat.{_<_, _+_}
+use Rattle.trie_spec.proofs.WalkLaws.{close-end, close-leaf, close-missing, close-wrong, close-next, branch-room, near-below, leaf-below, slot-fits}
 use borrow.Author.Needs.{needs}
 use Rattle.trie.proofs.descent.find_closest_leaf.Statement.{statement}
 use Rattle.trie.proofs.descent.find_closest_leaf.Tie as tie

@@ -1,5 +1,5 @@
 -- `trie::find::find_exact_leaf` meets its contract: by the ways out: an empty store, a root link that leads nowhere, and a root. Assumes nothing.
-use Rattle.trie.proofs.FindLaws.{none-stored, root-below, root-found, root-lost}
+use Rattle.trie_spec.proofs.FindLaws.{none-stored, root-below, root-found, root-lost}
 use borrow.Author.Needs.{needs}
 use Rattle.trie.proofs.find.find_exact_leaf.Statement.{statement}
 use Rattle.trie.proofs.find.find_exact_leaf.Tie as tie

@@ -1,5 +1,5 @@
 -- `trie::find::find_from` meets its contract: by the three answers of the descent. Assumes nothing.
-use Rattle.trie.proofs.FindLaws.{lies-at, from-at, from-stands, from-missing, from-wrong}
+use Rattle.trie_spec.proofs.FindLaws.{lies-at, from-at, from-stands, from-missing, from-wrong}
 use borrow.Author.Needs.{needs}
 use Rattle.trie.proofs.find.find_from.Statement.{statement}
 use Rattle.trie.proofs.find.find_from.Tie as tie

@@ -1,5 +1,5 @@
 -- `trie::find::matching` meets its contract: by the kinds of child, and by the leaf's key. Assumes nothing.
-use Rattle.trie.proofs.FindLaws.{leaf-room, is-leaf, is-other}
+use Rattle.trie_spec.proofs.FindLaws.{leaf-room, is-leaf, is-other}
 use borrow.Author.Needs.{needs}
 use Rattle.trie.proofs.find.matching.Statement.{statement}
 use Rattle.trie.proofs.find.matching.Tie as tie

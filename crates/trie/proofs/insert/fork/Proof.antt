@@ -1,5 +1,5 @@
 -- `trie::insert::fork` meets its contract: by the three ways out: no leaf record, no branch record, and both taken. Assumes nothing.
-use Rattle.trie.proofs.WriteLaws.{leaf-fits, both-fit, both-few, both-leaf, both-branch, both-number, both-within, forked-new, forked-bytes, no-branch, no-branch-bytes, not-forked, not-forked-bytes}
+use Rattle.trie_spec.proofs.WriteLaws.{leaf-fits, both-fit, both-few, both-leaf, both-branch, both-number, both-within, forked-new, forked-bytes, no-branch, no-branch-bytes, not-forked, not-forked-bytes}
 use borrow.Author.Needs.{needs}
 use Rattle.trie.proofs.insert.fork.Statement.{statement}
 use Rattle.trie.proofs.insert.fork.Tie as tie

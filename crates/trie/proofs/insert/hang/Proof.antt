@@ -1,5 +1,5 @@
 -- `trie::insert::hang` meets its contract: by the two ways out: no leaf record, and one taken. Assumes nothing.
-use Rattle.trie.proofs.WriteLaws.{leaf-block, leaf-fits, leaf-within, leaf-small, hung-new, hung-bytes, not-hung, not-hung-bytes}
+use Rattle.trie_spec.proofs.WriteLaws.{leaf-block, leaf-fits, leaf-within, leaf-small, hung-new, hung-bytes, not-hung, not-hung-bytes}
 use borrow.Author.Needs.{needs}
 use Rattle.trie.proofs.insert.hang.Statement.{statement}
 use Rattle.trie.proofs.insert.hang.Tie as tie

@@ -1,6 +1,6 @@
 -- `trie::insert::insert` meets its contract: by the ways out: an empty store, a root link that leads nowhere, and a root. Assumes nothing.
-use Rattle.trie.proofs.FindLaws.{root-below}
-use Rattle.trie.proofs.WriteLaws.{first-answer, first-bytes, under-answer, under-bytes, lost-root-answer, lost-root-bytes}
+use Rattle.trie_spec.proofs.FindLaws.{root-below}
+use Rattle.trie_spec.proofs.WriteLaws.{first-answer, first-bytes, under-answer, under-bytes, lost-root-answer, lost-root-bytes}
 use borrow.Author.Needs.{needs}
 use Rattle.trie.proofs.insert.insert.Statement.{statement}
 use Rattle.trie.proofs.insert.insert.Tie as tie

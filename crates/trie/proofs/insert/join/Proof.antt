@@ -1,5 +1,5 @@
 -- `trie::insert::join` meets its contract: by the order of the two slots. Assumes nothing.
-use Rattle.trie.proofs.WriteLaws.{join-low, join-high}
+use Rattle.trie_spec.proofs.WriteLaws.{join-low, join-high}
 use borrow.Author.Needs.{needs}
 use Rattle.trie.proofs.insert.join.Statement.{statement}
 use Rattle.trie.proofs.insert.join.Tie as tie

@@ -1,5 +1,5 @@
 -- `trie::insert::plant` meets its contract: the three writes, one after the other. Assumes nothing.
-use Rattle.trie.proofs.WriteLaws.{planted-bytes}
+use Rattle.trie_spec.proofs.WriteLaws.{planted-bytes}
 use borrow.Author.Needs.{needs}
 use Rattle.trie.proofs.insert.plant.Statement.{statement}
 use Rattle.trie.proofs.insert.plant.Tie as tie

@@ -1,5 +1,5 @@
 -- `trie::insert::put_beside` meets its contract: the critical position, and the descent to it. Assumes nothing.
-use Rattle.trie.proofs.WriteLaws.{place-fits, next-fits, beside-answer, beside-bytes}
+use Rattle.trie_spec.proofs.WriteLaws.{place-fits, next-fits, beside-answer, beside-bytes}
 use borrow.Author.Needs.{needs}
 use Rattle.trie.proofs.insert.put_beside.Statement.{statement}
 use Rattle.trie.proofs.insert.put_beside.Tie as tie

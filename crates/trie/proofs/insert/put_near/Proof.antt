@@ -1,5 +1,5 @@
 -- `trie::insert::put_near` meets its contract: by the two ways out: the leaf's own key, and another. Assumes nothing.
-use Rattle.trie.proofs.WriteLaws.{replaced-answer, replaced-bytes, is-new, new-answer, new-bytes}
+use Rattle.trie_spec.proofs.WriteLaws.{replaced-answer, replaced-bytes, is-new, new-answer, new-bytes}
 use borrow.Author.Needs.{needs}
 use Rattle.trie.proofs.insert.put_near.Statement.{statement}
 use Rattle.trie.proofs.insert.put_near.Tie as tie

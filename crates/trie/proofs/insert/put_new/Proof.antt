@@ -1,5 +1,5 @@
 -- `trie::insert::put_new` meets its contract: by the ways out, in the order of the tests: HEIGHT, then FULL. Assumes nothing.
-use Rattle.trie.proofs.WriteLaws.{full-missing, full-missing-bytes, missing-within, hang-answer, hang-bytes, step-below, step-within, too-high, too-high-bytes, full-at, full-at-bytes, fork-answer, fork-bytes, wrong-answer, wrong-bytes}
+use Rattle.trie_spec.proofs.WriteLaws.{full-missing, full-missing-bytes, missing-within, hang-answer, hang-bytes, step-below, step-within, too-high, too-high-bytes, full-at, full-at-bytes, fork-answer, fork-bytes, wrong-answer, wrong-bytes}
 use borrow.Author.Needs.{needs}
 use Rattle.trie.proofs.insert.put_new.Statement.{statement}
 use Rattle.trie.proofs.insert.put_new.Tie as tie

@@ -1,5 +1,5 @@
 -- `trie::insert::put_under` meets its contract: by the two answers of the descent. Assumes nothing.
-use Rattle.trie.proofs.WriteLaws.{closest-below, near-answer, near-bytes, lost-answer, lost-bytes}
+use Rattle.trie_spec.proofs.WriteLaws.{closest-below, near-answer, near-bytes, lost-answer, lost-bytes}
 use borrow.Author.Needs.{needs}
 use Rattle.trie.proofs.insert.put_under.Statement.{statement}
 use Rattle.trie.proofs.insert.put_under.Tie as tie

@@ -1,5 +1,5 @@
 -- `trie::relink::relink` meets its contract: by the two kinds of spot. Assumes nothing.
-use Rattle.trie.proofs.WriteLaws.{spot-room, root-relinked, under-relinked}
+use Rattle.trie_spec.proofs.WriteLaws.{spot-room, root-relinked, under-relinked}
 use borrow.Author.Needs.{needs}
 use Rattle.trie.proofs.relink.relink.Statement.{statement}
 use Rattle.trie.proofs.relink.relink.Tie as tie

@@ -1,5 +1,5 @@
 -- `trie::remove::lift` meets its contract: by the answers of the branch: its other child, or none. Assumes nothing.
-use Rattle.trie.proofs.WriteLaws.{link-small, gave-fits, gave-within, lift-done, lift-bytes, not-lifted, not-lifted-bytes}
+use Rattle.trie_spec.proofs.WriteLaws.{link-small, gave-fits, gave-within, lift-done, lift-bytes, not-lifted, not-lifted-bytes}
 use borrow.Author.Needs.{needs}
 use Rattle.trie.proofs.remove.lift.Statement.{statement}
 use Rattle.trie.proofs.remove.lift.Tie as tie

@@ -1,5 +1,5 @@
 -- `trie::remove::remove` meets its contract: by the ways out: the last leaf, a branch of two children, and a larger one. Assumes nothing.
-use Rattle.trie.proofs.WriteLaws.{empty-done, empty-bytes, under-below, under-room, under-here, lifts-done, lifts-bytes, shrink-done, shrink-bytes}
+use Rattle.trie_spec.proofs.WriteLaws.{empty-done, empty-bytes, under-below, under-room, under-here, lifts-done, lifts-bytes, shrink-done, shrink-bytes}
 use borrow.Author.Needs.{needs}
 use Rattle.trie.proofs.remove.remove.Statement.{statement}
 use Rattle.trie.proofs.remove.remove.Tie as tie

@@ -1,0 +1,6 @@
+pub mod ReadLaws
+pub mod ParseLaws
+pub mod WriteLaws
+pub mod PieceLaws
+pub mod CasesHold
+pub mod RoundTrip

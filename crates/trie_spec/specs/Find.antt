@@ -1,0 +1,45 @@
+-- Exact lookup over the bytes of a store, on any bytes. Assumes nothing.
+use Prim.Native.Nat.{ℕ, _<_}
+use mathlib.Core.Bool.{cond}
+use mathlib.Core.List.{List}
+use lib.Dec.{eqb}
+use Rattle.model.specs.Key.{order, onEqual}
+use Rattle.node.specs.Child.{linkOf}
+use Rattle.node.specs.Leaf.{leafIn}
+use Rattle.node.specs.declared.child.Child.{Child}
+use Rattle.node.specs.declared.child.Link.{Link}
+use Rattle.node.specs.declared.header.Header.{Header}
+use Rattle.trie_spec.specs.Walk.{steps, onLinked, onNode, walk, first, Within}
+use Rattle.trie_spec.specs.declared.descent.Step.{Step}
+use Rattle.trie_spec.specs.declared.descent.Walked.{Walked}
+use Rattle.trie_spec.specs.declared.descent.Walked.the-variants.{At, Missing, Wrong}
+use Rattle.trie_spec.specs.declared.find.Exact.{Exact}
+use Rattle.trie_spec.specs.declared.find.Exact.the-variants.{Leaf, Absent, Wrong as NoTree}
+
+-- past every position
+abbrev pub noStop : ℕ
+noStop = 256
+
+-- the leaf met, if its key is the one looked for
+abbrev pub matched : List ℕ → List ℕ → Child → Step → Exact
+matched st k c s = onNode (λ n. onEqual (order k (leafIn st (n .0) .key)) (Leaf n s) Absent) (λ b. NoTree) c
+
+abbrev pub onWalked : List ℕ → List ℕ → Walked → Exact
+onWalked st k (At c s) = matched st k c s
+onWalked st k (Missing b s) = Absent
+onWalked st k Wrong = NoTree
+
+abbrev pub findFrom : List ℕ → ℕ → List ℕ → Link → Exact
+findFrom st cap k root = onWalked st k (walk st cap k noStop steps (first root))
+
+-- nothing in an empty store
+abbrev pub findIn : List ℕ → Header → List ℕ → Exact
+findIn st h k =
+    cond (eqb (h .leaves) 0) Absent
+    (onLinked (λ root. findFrom st (h .capacity) k root) NoTree NoTree (linkOf (h .capacity) (h .root)))
+
+-- what is found lies in the store
+abbrev pub Stands : ℕ → Exact → Type 0
+Stands cap (Leaf n s) = (n .0 < cap) × Within cap (s .at) × Within cap (s .above)
+Stands cap Absent = Unit {0}
+Stands cap NoTree = Unit {0}

@@ -1,0 +1,5 @@
+// What the trie's functions answer and do over the bytes of a store, on any bytes, and what that means on an accepted store: types, definitions and laws.
+// The crate trie has the code.
+pub mod descent;
+pub mod find;
+pub mod insert;
