@@ -19,8 +19,8 @@ pub const MAPS: [&str; 3] = ["index", "original", "tree"];
 // ---- what is measured: each loop is a function of its own, which callgrind counts by its name
 
 #[inline(never)]
-fn measured_insert<M: Map>(map: &mut M, keys: Vec<Key>) -> usize {
-    keys.into_iter().enumerate().filter_map(|(i, key)| map.insert(key, i as u32).then_some(())).count()
+fn measured_insert<M: Map>(map: &mut M, keys: &mut [Key]) -> usize {
+    keys.iter_mut().enumerate().filter_map(|(i, key)| map.insert(key, i as u32).then_some(())).count()
 }
 
 #[inline(never)]
@@ -63,18 +63,25 @@ fn timed(work: impl FnOnce() -> usize) -> Took {
     (count, began.elapsed().as_nanos() as f64)
 }
 
-// All operations on one map, each once. What the keys cost to copy is not counted: the map is given keys of its own.
-fn round<M: Map>(keys: &Keys) -> [Took; 7] {
-    let own = keys.stored.clone();
+// All operations on one map, each once. A map that keeps keys is given copies: what these cost is not counted. Where it is timed, an operation that can be
+// repeated is done once before, so that a map's memory is as warm as it gets.
+fn round<M: Map>(keys: &Keys, timing: bool) -> [Took; 7] {
+    let again = |work: &mut dyn FnMut() -> usize| {
+        if timing {
+            work();
+        }
+        timed(work)
+    };
+    let mut own = keys.stored.clone();
     let mut order = keys.stored.clone();
     Rng::new(11).shuffle(&mut order);
     let mut map = M::new(own.len());
-    let insert = timed(|| measured_insert(&mut map, own));
-    let get_hit = timed(|| measured_get_hit(&map, &order));
-    let get_miss = timed(|| measured_get_miss(&map, &keys.missing));
-    let overwrite = timed(|| measured_overwrite(&mut map, &order));
-    let full = timed(|| measured_full_listing(&map, &vec![]));
-    let study = timed(|| measured_study_listing(&map, &keys.study));
+    let insert = timed(|| measured_insert(&mut map, &mut own));
+    let get_hit = again(&mut || measured_get_hit(&map, &order));
+    let get_miss = again(&mut || measured_get_miss(&map, &keys.missing));
+    let overwrite = again(&mut || measured_overwrite(&mut map, &order));
+    let full = again(&mut || measured_full_listing(&map, &vec![]));
+    let study = again(&mut || measured_study_listing(&map, &keys.study));
     Rng::new(13).shuffle(&mut order);
     let remove = timed(|| measured_remove(&mut map, &order));
     let all = [insert, get_hit, get_miss, overwrite, full, study, remove];
@@ -84,11 +91,11 @@ fn round<M: Map>(keys: &Keys) -> [Took; 7] {
     all
 }
 
-pub fn round_of(map: &str, keys: &Keys) -> [Took; 7] {
+pub fn round_of(map: &str, keys: &Keys, timing: bool) -> [Took; 7] {
     match map {
-        "index" => round::<Index>(keys),
-        "original" => round::<Original>(keys),
-        "tree" => round::<Tree>(keys),
+        "index" => round::<Index>(keys, timing),
+        "original" => round::<Original>(keys, timing),
+        "tree" => round::<Tree>(keys, timing),
         _ => panic!("no map is called {map}"),
     }
 }
@@ -99,7 +106,7 @@ fn main() {
         // one round for callgrind; prints how many keys each operation was over
         ["round", map, set, count] => {
             let keys = Keys::named(set, count.parse().expect("a number of keys"));
-            for (operation, took) in OPERATIONS.iter().zip(round_of(map, &keys)) {
+            for (operation, took) in OPERATIONS.iter().zip(round_of(map, &keys, false)) {
                 println!("{operation}\t{}", took.0);
             }
         }

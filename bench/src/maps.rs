@@ -5,8 +5,8 @@ use std::hint::black_box;
 
 pub trait Map {
     fn new(count: usize) -> Self;
-    // The key is the map's to keep, where it keeps keys.
-    fn insert(&mut self, key: Key, value: u32) -> bool;
+    // The key is the map's to take, where it keeps keys.
+    fn insert(&mut self, key: &mut Key, value: u32) -> bool;
     fn get(&self, key: &Key) -> Option<u32>;
     fn overwrite(&mut self, key: &Key, value: u32) -> bool;
     fn remove(&mut self, key: &Key) -> bool;
@@ -41,7 +41,7 @@ impl Map for Index {
         Index(store)
     }
 
-    fn insert(&mut self, key: Key, value: u32) -> bool {
+    fn insert(&mut self, key: &mut Key, value: u32) -> bool {
         unsafe { ponybollard_insert(self.0.as_mut_ptr(), self.0.len(), key.as_ptr(), key.len(), value) == 0 }
     }
 
@@ -100,8 +100,8 @@ impl Map for Original {
         Original(qptrie::Trie::new())
     }
 
-    fn insert(&mut self, key: Key, value: u32) -> bool {
-        self.0.insert(key, value)
+    fn insert(&mut self, key: &mut Key, value: u32) -> bool {
+        self.0.insert(std::mem::take(key), value)
     }
 
     fn get(&self, key: &Key) -> Option<u32> {
@@ -135,8 +135,8 @@ impl Map for Tree {
         Tree(BTreeMap::new())
     }
 
-    fn insert(&mut self, key: Key, value: u32) -> bool {
-        self.0.insert(key, value).is_none()
+    fn insert(&mut self, key: &mut Key, value: u32) -> bool {
+        self.0.insert(std::mem::take(key), value).is_none()
     }
 
     fn get(&self, key: &Key) -> Option<u32> {

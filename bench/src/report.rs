@@ -38,7 +38,7 @@ fn nanoseconds(set: (&str, usize)) -> Costs {
     let mut all: BTreeMap<&str, Vec<Vec<f64>>> = BTreeMap::new();
     for i in 0..rounds + 2 {
         for map in MAPS {
-            let took = round_of(map, &keys);
+            let took = round_of(map, &keys, true);
             // the first rounds warm up
             if i >= 2 {
                 let each = all.entry(map).or_insert_with(|| vec![vec![]; OPERATIONS.len()]);

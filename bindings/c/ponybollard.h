@@ -4,7 +4,8 @@
  *
  * Every call, on any bytes whatever: it ends, reads and writes nothing but what it is lent, and answers with one of the numbers below.
  * With an answer from 10 up no byte of the store or of the output is changed, and the numbers beside the answer are 0 (or false).
- * On a store that ponybollard_check accepts each answer is given exactly when its comment says, and the store stays one that the check accepts.
+ * On a store that ponybollard_check accepts each answer is given exactly when its comment says and no answer of a lower number from 10 up is: 10 to 16 is
+ * the order of the tests. The store stays one that the check accepts.
  * A store that is not accepted may be refused with PONYBOLLARD_STORE by any call; where the slice is too short or the header is wrong, it is.
  *
  * What the caller owes: pointers to as many bytes as the length says (where a length is 0 the pointer is not used, and may be NULL), that stay lent

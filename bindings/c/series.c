@@ -39,6 +39,23 @@ static size_t print_page(const uint8_t *out, size_t bytes, uint8_t *last)
     return len;
 }
 
+/* Each refusal, once. */
+static void refusals(void)
+{
+    uint8_t small[2 * 128], long_key[PONYBOLLARD_KEY_LIMIT + 1] = {0}, out[1];
+    size_t entries, bytes;
+    bool end;
+
+    expect("create in 255 bytes", ponybollard_create(small, sizeof small - 1, 0), PONYBOLLARD_ROOM);
+    expect("create", ponybollard_create(small, sizeof small, 0), PONYBOLLARD_DONE);
+    expect("a long key", ponybollard_insert(small, sizeof small, long_key, sizeof long_key, 1), PONYBOLLARD_KEY);
+    expect("insert", ponybollard_insert(small, sizeof small, NULL, 0, 1), PONYBOLLARD_DONE);
+    expect("insert under limit 0", ponybollard_insert(small, sizeof small, long_key, 1, 1), PONYBOLLARD_HEIGHT);
+    expect("set_limit", ponybollard_set_limit(small, sizeof small, PONYBOLLARD_NO_LIMIT), PONYBOLLARD_DONE);
+    expect("insert past the capacity", ponybollard_insert(small, sizeof small, long_key, 1, 1), PONYBOLLARD_FULL);
+    expect("a page without room", ponybollard_first_page(small, sizeof small, NULL, 0, true, 1, out, sizeof out, &entries, &bytes, &end), PONYBOLLARD_COUNT);
+}
+
 int main(void)
 {
     char key[PONYBOLLARD_KEY_LIMIT + 1];
@@ -74,6 +91,11 @@ int main(void)
                PONYBOLLARD_DONE);
         last_len = print_page(out, bytes, last);
     }
+    expect("insert again", ponybollard_insert(store, sizeof store, (const uint8_t *)key, strlen(key), 7), PONYBOLLARD_REPLACED);
+    expect("overwrite", ponybollard_overwrite(store, sizeof store, (const uint8_t *)key, strlen(key), 8), PONYBOLLARD_DONE);
+    expect("get", ponybollard_get(store, sizeof store, (const uint8_t *)key, strlen(key), &value), PONYBOLLARD_DONE);
+    printf("%s is slice %lu now\n", key, (unsigned long)value);
+    refusals();
     expect("check", ponybollard_check(store, sizeof store), PONYBOLLARD_DONE);
     expect("check of a part", ponybollard_check(store, sizeof store - 128), PONYBOLLARD_STORE);
     return 0;

@@ -263,8 +263,16 @@ pub fn compare(bytes: &[u8], calls: &[Call], out: &[u8]) -> Option<Difference> {
                     Call::Insert(..) | Call::Overwrite(..) | Call::Remove(_) | Call::Limit(_) | Call::Create(_)
                 ) {
                     changing = Some(number);
-                    if matches!(call, Call::Create(_)) && number == 0 {
-                        model = None;
+                    // whatever the bytes were, a creation is done exactly if there is room, and leaves an empty store
+                    if let Call::Create(_) = call {
+                        let mut made = Model { len: now.len(), store: None };
+                        let wanted = made.call(call);
+                        if wanted != *answer {
+                            return Some((i, format!("by document 01 {wanted:02X?}, by replay {answer:02X?}")));
+                        }
+                        if number == 0 {
+                            model = Some(made);
+                        }
                     }
                 }
             }

@@ -17,6 +17,7 @@
 //! ```
 #![no_std]
 #![deny(missing_docs)]
+#![deny(unsafe_code)]
 #![deny(unsafe_op_in_unsafe_fn)]
 
 #[allow(unsafe_code)]
@@ -51,7 +52,7 @@ pub const fn store_size(keys: usize) -> usize {
     128 * (keys + 1)
 }
 
-/// Why a call was refused. A refused call changes no byte.
+/// Why a call was refused: the first of these, in this order, that holds. A refused call changes no byte.
 #[derive(Clone, Copy, Debug, PartialEq, Eq, Hash)]
 pub enum Error {
     /// The bytes are no store: too short, a wrong header, or no tree.
@@ -60,7 +61,7 @@ pub enum Error {
     Key,
     /// A new key, and the height limit's rule refuses it.
     Height,
-    /// A new key, and as many keys are stored as the store has room for.
+    /// A new key that the height limit does not refuse, and as many keys are stored as the store has room for.
     Full,
     /// The key is not stored.
     Absent,
@@ -204,11 +205,36 @@ impl<'a> Store<'a> {
     }
 
     /// Whether no key is stored.
+    ///
+    /// ```
+    /// use ponybollard::{Store, NO_LIMIT};
+    ///
+    /// let mut bytes = [0; 256];
+    /// let mut store = Store::create(&mut bytes, NO_LIMIT)?;
+    /// store.insert(b"x", 1)?;
+    /// assert!(!store.is_empty());
+    /// store.remove(b"x")?;
+    /// assert!(store.is_empty());
+    /// # Ok::<(), ponybollard::Error>(())
+    /// ```
     pub fn is_empty(&self) -> bool {
         calls::is_empty(self.bytes).1
     }
 
     /// Another height limit, from 0 to 65,535. It changes nothing that is stored.
+    ///
+    /// ```
+    /// use ponybollard::{store_size, Error, Store};
+    ///
+    /// let mut bytes = [0; store_size(2)];
+    /// let mut store = Store::create(&mut bytes, 0)?;
+    /// store.insert(b"x", 1)?;
+    /// assert_eq!(store.insert(b"y", 2), Err(Error::Height));
+    /// store.set_limit(1)?;
+    /// assert!(store.insert(b"y", 2).is_ok());
+    /// assert_eq!(store.check(), Ok(()));
+    /// # Ok::<(), Error>(())
+    /// ```
     pub fn set_limit(&mut self, limit: u16) -> Result<(), Error> {
         done(calls::set_limit(self.bytes, limit))
     }

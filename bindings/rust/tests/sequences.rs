@@ -1,5 +1,5 @@
 //! The call sequences of the comparison with the Rust original (oracle/), from the same seed, made through this crate: every answer is that of document 01's
-//! rules over a sorted map, with which the original agrees on the same sequences.
+//! rules over a sorted map, with which the original agrees on the same sequences. The largest store has a sequence of the same making.
 // What these modules have is used by the comparison; this test needs a part of it.
 #[allow(dead_code)]
 #[path = "../../../oracle/src/generate.rs"]

@@ -1,5 +1,8 @@
 // The walk over the tree of records. A branch compares the first leaf of each child with the first leaf of all: the other leaves of a child agree with its
 // first one past the branch's position, by the child's own check. No mark is kept of the records met: in a picture none is reached twice.
+use lookup::descent::STEPS;
+use lookup::keys::critical;
+use lookup::keys::nibble;
 use node::branch::get_child;
 use node::child::Child;
 use node::child::LeafNo;
@@ -9,9 +12,6 @@ use node::child::link_of;
 use node::layout::NO_ROOT;
 use node::leaf::fits;
 use node::leaf::key;
-use trie::descent::STEPS;
-use trie::keys::critical;
-use trie::keys::nibble;
 ghost use mathlib.Core.Path.{_≡_};
 ghost use Prim.Native.Nat.{_-_, _≤_, _<_};
 ghost use lib.ListN.{length};

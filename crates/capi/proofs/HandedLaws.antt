@@ -1,8 +1,8 @@
 -- What is handed over is the index's answer, and so its contracts hold of it.
 -- Assumes nothing.
 use Prim.Native.Nat.{ℕ}
-use mathlib.Core.Path.{_≡_, refl, sym, ap, _∙_, subst}
-use mathlib.Core.Bool.{Bool, true, false, cond}
+use mathlib.Core.Path.{_≡_, sym, ap, _∙_, subst}
+use mathlib.Core.Bool.{Bool}
 use mathlib.Core.List.{List}
 use Rattle.trie_spec.specs.Writes.{Outcome, Did}
 use Rattle.promises.specs.Meaning.{Reply}

@@ -1,4 +1,4 @@
--- What a turn of the program gives, and that turns make up a run.
+-- What a turn of the program gives, and its end.
 -- Assumes nothing.
 use Prim.Native.Nat.{ℕ, _≤_}
 use mathlib.Core.Path.{_≡_}

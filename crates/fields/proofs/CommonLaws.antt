@@ -11,7 +11,7 @@ use lib.ListN.{length, getD}
 use lib.Seq.{ext-getD}
 use borrow.Author.Count.{below-more}
 use borrow.Author.Tests.{eqb-true, eqb-false, eq-eqb, ne-eqb}
-use Rattle.fields.specs.Common.{common}
+use Rattle.fields.specs.Common.{common, Says}
 
 pub common-first : (xs ys : List ℕ) → common xs ys ≤ length xs
 unfolding common
@@ -94,30 +94,20 @@ module _ (xs ys : List ℕ) (i : ℕ) (a : AgreeBelow xs ys i) where
   pub first-ended : length xs ≤ i → i ≤ length xs → i ≤ length ys → i ≡ common xs ys
   first-ended h l k = common-is xs ys i (omega arith) (omega arith) a (λ m n e. omega arith)
 
--- ---- the loop of `same`: d counts the bytes below i that differ
-
-pub record Counted (xs ys : List ℕ) (i d : ℕ) : Type 0 where
-  pub few : d ≤ i
-  pub none : d ≡ 0 → AgreeBelow xs ys i
-  pub some : AgreeBelow xs ys i → d ≡ 0
+-- ---- the loop of `same`: the flag says whether the bytes below i agree
 
 module _ (xs ys : List ℕ) where
-  pub counted-start : Counted xs ys 0 0
-  counted-start = record { few = omega arith; none = λ e i h. omega arith; some = λ a. refl }
+  pub agreed-start : (f : Bool) → f ≡ true → Says f (AgreeBelow xs ys 0)
+  agreed-start f p = rw p (λ i h. omega arith)
 
-  module _ (i d : ℕ) (k : Counted xs ys i d) where
-    pub counted-differ : (d′ : ℕ) → d′ ≡ d + 1 → (getD xs i 0 ≡ getD ys i 0 → ⊥) → Counted xs ys (i + 1) d′
-    counted-differ d′ q ne = record { few = omega (arith, k .few); none = λ e. omega arith; some = λ a. absurd (ne (a i (omega arith))) }
+  module _ (i : ℕ) where
+    pub agreed-differ : (f : Bool) → f ≡ false → (getD xs i 0 ≡ getD ys i 0 → ⊥) → Says f (AgreeBelow xs ys (i + 1))
+    agreed-differ f p ne = rw p (λ a. ne (a i (omega arith)))
 
-    pub counted-agree : (d′ : ℕ) → d′ ≡ d → getD xs i 0 ≡ getD ys i 0 → Counted xs ys (i + 1) d′
-    counted-agree d′ q e = record {
-      few = omega (arith, k .few);
-      none = λ z. below-more _ _ (k .none (sym q ∙ z)) e;
-      some = λ a. q ∙ k .some (λ j h. a j (omega arith));
-    }
+    pub agreed-more : (f g : Bool) → Says f (AgreeBelow xs ys i) → g ≡ f → getD xs i 0 ≡ getD ys i 0 → Says g (AgreeBelow xs ys (i + 1))
+    agreed-more true g a p e = rw p (below-more _ _ a e)
+    agreed-more false g a p e = rw p (λ b. a (λ j h. b j (omega arith)))
 
-  pub counted-same : (n i d : ℕ) → n ≡ length xs → length ys ≡ n → i ≤ n → n ≤ i → Counted xs ys i d → d ≡ 0 → xs ≡ ys
-  counted-same n i d e l h k c z = ext-getD 0 xs ys (sym e ∙ sym l) (λ j m. c .none z j (omega arith))
-
-  pub counted-not : (i d : ℕ) → Counted xs ys i d → (d ≡ 0 → ⊥) → xs ≡ ys → ⊥
-  counted-not i d k z e = z (k .some (λ j h. ap (λ (zs : List ℕ). getD zs j 0) e))
+  pub agreed-all : (n i : ℕ) (f : Bool) → n ≡ length xs → length ys ≡ n → i ≤ n → n ≤ i → Says f (AgreeBelow xs ys i) → Says f (xs ≡ ys)
+  agreed-all n i true e l h k a = ext-getD 0 xs ys (sym e ∙ sym l) (λ j m. a j (omega arith))
+  agreed-all n i false e l h k a = λ q. a (λ j m. ap (λ (zs : List ℕ). getD zs j 0) q)

@@ -77,7 +77,7 @@ pub fn first_difference(a: &[u8], b: &[u8]) -> usize
     i
 }
 
-// Whether a and b are the same bytes. The loop counts the bytes that differ and has no early exit, so that it compiles to vector instructions.
+// Whether a and b are the same bytes. The loop has no early exit and keeps one flag, so that it compiles to vector instructions.
 pub fn same(a: &[u8], b: &[u8]) -> bool
     ensures { λ r. ⌜ Says r (now (a .entry) ≡ now (b .entry)) ⌝ }
 {
@@ -85,13 +85,13 @@ pub fn same(a: &[u8], b: &[u8]) -> bool
     if b.len() != n {
         return false;
     }
-    let mut differ: usize = 0;
+    let mut equal = true;
     let mut i = 0;
     while i < n {
         if a[i] != b[i] {
-            differ += 1;
+            equal = false;
         }
         i += 1;
     }
-    if differ == 0 { true } else { false }
+    equal
 }

@@ -4,7 +4,7 @@ use trie_spec::find::Exact;
 ghost use mathlib.Core.Path.{_≡_};
 ghost use Rattle.index_spec.specs.Calls.{refusedChange};
 
-// What a lookup that found nothing is answered with.
+// What a removal is answered with whose lookup found nothing.
 pub fn refused(found: Exact) -> Changed
     ensures { λ r. ⌜ r ≡ refusedChange found ⌝ }
 {

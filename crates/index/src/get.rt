@@ -1,11 +1,11 @@
 // The value of a stored key.
 pub use index_spec::get::Got;
+use lookup::find::Found;
+use lookup::find::find_leaf;
 use node::header::Head;
 use node::header::Header;
 use node::header::read_head;
 use node::layout::KEY_LIMIT;
-use trie::find::find_exact_leaf;
-use trie_spec::find::Exact;
 ghost use mathlib.Core.Path.{_≡_};
 ghost use Prim.Native.Nat.{_≤_};
 ghost use lib.ListN.{length};
@@ -16,13 +16,13 @@ ghost use Rattle.index_spec.specs.Replies.{getReply};
 ghost use Rattle.index_spec.specs.Calls.{refusedGet, gotIn, getCall};
 
 // What a lookup that found nothing is answered with.
-fn refused(found: Exact) -> Got
+fn refused(found: Found) -> Got
     ensures { λ r. ⌜ r ≡ refusedGet found ⌝ }
 {
     match found {
-        Exact::Absent => Got::Absent,
-        Exact::Leaf(_n, _step) => Got::Store,
-        Exact::Wrong => Got::Store,
+        Found::Absent => Got::Absent,
+        Found::Leaf(_n) => Got::Store,
+        Found::Wrong => Got::Store,
     }
 }
 
@@ -30,8 +30,8 @@ fn get_in(store: &[u8], h: Header, key: &[u8]) -> Got
     requires { ⌜ start (h .capacity) ≤ length (now store) ⌝ }
     ensures { λ r. ⌜ r ≡ gotIn (now (store .entry)) h (now (key .entry)) ⌝ }
 {
-    let found = find_exact_leaf(store, h, key);
-    let Exact::Leaf(n, _step) = found else {
+    let found = find_leaf(store, h, key);
+    let Found::Leaf(n) = found else {
         return refused(found);
     };
     Got::Value(node::leaf::value(store, n))

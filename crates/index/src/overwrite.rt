@@ -1,12 +1,12 @@
 // A stored key gets another value.
-use crate::changed::refused;
 use index_spec::changed::Changed;
+use lookup::find::Found;
+use lookup::find::find_leaf;
 use node::header::Head;
 use node::header::Header;
 use node::header::read_head;
 use node::layout::KEY_LIMIT;
-use trie::find::find_exact_leaf;
-use trie_spec::find::Exact;
+ghost use mathlib.Core.Path.{_≡_};
 ghost use Prim.Native.Nat.{_≤_};
 ghost use lib.ListN.{length};
 ghost use Rattle.node.specs.Layout.{start};
@@ -14,14 +14,25 @@ ghost use Rattle.trie_spec.specs.Writes.{Did};
 ghost use Rattle.promises.specs.Promises.{Overwrite};
 ghost use Rattle.index_spec.specs.Layout.{layout};
 ghost use Rattle.index_spec.specs.Replies.{changedReply};
-ghost use Rattle.index_spec.specs.Calls.{overwrittenIn, overwriteCall};
+ghost use Rattle.index_spec.specs.Calls.{refusedOverwrite, overwrittenIn, overwriteCall};
+
+// What a lookup that found nothing is answered with.
+fn refused(found: Found) -> Changed
+    ensures { λ r. ⌜ r ≡ refusedOverwrite found ⌝ }
+{
+    match found {
+        Found::Absent => Changed::Absent,
+        Found::Leaf(_n) => Changed::Store,
+        Found::Wrong => Changed::Store,
+    }
+}
 
 fn overwrite_in(store: &mut [u8], h: Header, key: &[u8], value: u32) -> Changed
     requires { ⌜ start (h .capacity) ≤ length (now store) ⌝ }
     ensures { λ r. ⌜ Did (overwrittenIn (now (store .entry)) h (now (key .entry)) value) r (now (store .exit)) ⌝ }
 {
-    let found = find_exact_leaf(store, h, key);
-    let Exact::Leaf(n, _step) = found else {
+    let found = find_leaf(store, h, key);
+    let Found::Leaf(n) = found else {
         return refused(found);
     };
     node::leaf::set_value(store, n, value);

@@ -1,11 +1,11 @@
 // A stored key is taken out.
 use crate::changed::refused;
 use index_spec::changed::Changed;
+use lookup::find::find_exact_leaf;
 use node::header::Head;
 use node::header::Header;
 use node::header::read_head;
 use node::layout::KEY_LIMIT;
-use trie::find::find_exact_leaf;
 use trie_spec::find::Exact;
 ghost use Prim.Native.Nat.{_≤_};
 ghost use lib.ListN.{length};

@@ -21,7 +21,9 @@ use Rattle.node.specs.declared.child.LeafNo.{LeafNo}
 use Rattle.node.specs.declared.header.Header.{Header}
 use Rattle.node.specs.declared.header.Head.{Head}
 use Rattle.node.specs.declared.header.Head.the-variants.{Good, Bad}
-use Rattle.trie_spec.specs.Find.{findIn}
+use Rattle.trie_spec.specs.Find.{findIn, leafOf, foundIn}
+use Rattle.trie_spec.proofs.LeafLaws.{NotMet}
+use Rattle.trie_spec.specs.declared.find.Found.{Found}
 use Rattle.trie_spec.specs.Writes.{Outcome, outcome, Did, insertIn, removeUnder}
 use Rattle.trie_spec.specs.declared.descent.Step.{Step}
 use Rattle.trie_spec.specs.declared.find.Exact.{Exact}
@@ -29,7 +31,7 @@ use Rattle.trie_spec.specs.declared.insert.Put.{Put}
 use Rattle.trie_spec.proofs.find.Exact.{enum}
 use Rattle.index_spec.specs.Layout.{withLimit}
 use Rattle.index_spec.specs.Replies.{emptyOf, insertedOf}
-use Rattle.index_spec.specs.Calls.{behind, createCall, emptyCall, limitCall, insertedIn, insertCall, refusedGet, gotOf, gotIn, getCall, refusedChange, overwritten, overwrittenIn, overwriteCall, removed, removedIn, removeCall}
+use Rattle.index_spec.specs.Calls.{behind, createCall, emptyCall, limitCall, insertedIn, insertCall, refusedGet, gotOf, gotIn, getCall, refusedOverwrite, refusedChange, overwritten, overwrittenIn, overwriteCall, removed, removedIn, removeCall}
 use Rattle.index_spec.specs.declared.changed.Changed.{Changed}
 use Rattle.index_spec.specs.declared.get.Got.{Got}
 use Rattle.index_spec.specs.declared.insert.Inserted.{Inserted}
@@ -134,41 +136,79 @@ module _ (k st : List ℕ) (x : Head) (p : x ≡ headOf st) where
 abbrev NotFound : Exact → Type 0
 NotFound z = (tagOf (declared enum) z ≡ 1) ⊎ (tagOf (declared enum) z ≡ 2)
 
-refused-get : (st : List ℕ) (z : Exact) → NotFound z → refusedGet z ≡ gotOf st z
-refused-get st (Exact.Leaf n s) f = absurd (⊎-elim (λ e. omega arith) (λ e. omega arith) f)
-refused-get st Exact.Absent f = refl
-refused-get st Exact.Wrong f = refl
-
-refused-overwrite : (st : List ℕ) (v : ℕ) (z : Exact) → NotFound z → overwritten st v z ≡ outcome (refusedChange z) st
-refused-overwrite st v (Exact.Leaf n s) f = absurd (⊎-elim (λ e. omega arith) (λ e. omega arith) f)
-refused-overwrite st v Exact.Absent f = refl
-refused-overwrite st v Exact.Wrong f = refl
-
 refused-remove : (st : List ℕ) (h : Header) (z : Exact) → NotFound z → removed st h z ≡ outcome (refusedChange z) st
 refused-remove st h (Exact.Leaf n s) f = absurd (⊎-elim (λ e. omega arith) (λ e. omega arith) f)
 refused-remove st h Exact.Absent f = refl
 refused-remove st h Exact.Wrong f = refl
 
 module _ (st : List ℕ) (h : Header) (k : List ℕ) (z : Exact) (p : z ≡ findIn st h k) where
-  pub refused-got : (r : Got) → NotFound z → r ≡ refusedGet z → r ≡ gotIn st h k
-  refused-got r f q = q ∙ refused-get st z f ∙ ap (gotOf st) p
-
-  pub refused-overwritten : (v : ℕ) (r : Changed) → NotFound z → r ≡ refusedChange z → Did (overwrittenIn st h k v) r st
-  refused-overwritten v r f q = did _ _ (ap (overwritten st v) (sym p) ∙ refused-overwrite st v z f) (q, refl)
-
   pub refused-removed : (r : Changed) → NotFound z → r ≡ refusedChange z → Did (removedIn st h k) r st
   refused-removed r f q = did _ _ (ap (removed st h) (sym p) ∙ refused-remove st h z f) (q, refl)
 
   module _ (n : LeafNo) (s : Step) (e : z ≡ Exact.Leaf n s) where
-    pub found-got : (v : ℕ) → v ≡ leafIn st (n .0) .value → Got.Value v ≡ gotIn st h k
-    found-got v q = ap Got.Value q ∙ ap (gotOf st) (sym e ∙ p)
-
-    pub found-overwritten : (st′ : List ℕ) (v : ℕ) → st′ ≡ setValue st (n .0) v → Did (overwrittenIn st h k v) Changed.Done st′
-    found-overwritten st′ v q = subst (λ (y : Exact). Did (overwritten st v y) Changed.Done st′) (sym e ∙ p) (refl, q)
-
     module _ (st′ : List ℕ) (b : Bool) (q : Did (removeUnder st h (n .0) (s .at) (s .above)) b st′) where
       pub found-removed : b ≡ true → Did (removedIn st h k) Changed.Done st′
       found-removed t = subst (λ (y : Exact). Did (removed st h y) Changed.Done st′) (sym e ∙ p) (ap (λ (y : Bool). cond y Changed.Done Changed.Store) (sym t ∙ q .0), q .1)
 
       pub unfit-removed : b ≡ false → Did (removedIn st h k) Changed.Store st′
       unfit-removed t = subst (λ (y : Exact). Did (removed st h y) Changed.Store st′) (sym e ∙ p) (ap (λ (y : Bool). cond y Changed.Done Changed.Store) (sym t ∙ q .0), q .1)
+
+-- ---- where the leaf alone is looked for
+
+-- the value, by the leaf
+gotBy : List ℕ → Found → Got
+gotBy st (Found.Leaf n) = Got.Value (leafIn st (n .0) .value)
+gotBy st Found.Absent = Got.Absent
+gotBy st Found.Wrong = Got.Store
+
+got-by : (st : List ℕ) (z : Exact) → gotBy st (leafOf z) ≡ gotOf st z
+unfolding gotBy
+got-by st (Exact.Leaf n s) = refl
+got-by st Exact.Absent = refl
+got-by st Exact.Wrong = refl
+
+-- the value replaced, by the leaf
+overwrittenBy : List ℕ → ℕ → Found → Outcome Changed
+overwrittenBy st v (Found.Leaf n) = outcome Changed.Done (setValue st (n .0) v)
+overwrittenBy st v Found.Absent = outcome Changed.Absent st
+overwrittenBy st v Found.Wrong = outcome Changed.Store st
+
+overwritten-by : (st : List ℕ) (v : ℕ) (z : Exact) → overwrittenBy st v (leafOf z) ≡ overwritten st v z
+unfolding overwrittenBy
+overwritten-by st v (Exact.Leaf n s) = refl
+overwritten-by st v Exact.Absent = refl
+overwritten-by st v Exact.Wrong = refl
+
+refused-get : (st : List ℕ) (w : Found) → NotMet w → refusedGet w ≡ gotBy st w
+unfolding gotBy
+refused-get st (Found.Leaf n) f = absurd (⊎-elim (λ e. omega arith) (λ e. omega arith) f)
+refused-get st Found.Absent f = refl
+refused-get st Found.Wrong f = refl
+
+refused-overwrite : (st : List ℕ) (v : ℕ) (w : Found) → NotMet w → overwrittenBy st v w ≡ outcome (refusedOverwrite w) st
+unfolding overwrittenBy
+refused-overwrite st v (Found.Leaf n) f = absurd (⊎-elim (λ e. omega arith) (λ e. omega arith) f)
+refused-overwrite st v Found.Absent f = refl
+refused-overwrite st v Found.Wrong f = refl
+
+module _ (st : List ℕ) (h : Header) (k : List ℕ) (w : Found) (p : w ≡ foundIn st h k) where
+  is-got : gotBy st w ≡ gotIn st h k
+  is-got = ap (gotBy st) p ∙ got-by st (findIn st h k)
+
+  is-overwritten : (v : ℕ) → overwrittenBy st v w ≡ overwrittenIn st h k v
+  is-overwritten v = ap (overwrittenBy st v) p ∙ overwritten-by st v (findIn st h k)
+
+  pub refused-got : (r : Got) → NotMet w → r ≡ refusedGet w → r ≡ gotIn st h k
+  refused-got r f q = q ∙ refused-get st w f ∙ is-got
+
+  pub refused-overwritten : (v : ℕ) (r : Changed) → NotMet w → r ≡ refusedOverwrite w → Did (overwrittenIn st h k v) r st
+  refused-overwritten v r f q = did _ _ (sym (is-overwritten v) ∙ refused-overwrite st v w f) (q, refl)
+
+  module _ (n : LeafNo) (e : w ≡ Found.Leaf n) where
+    pub found-got : (v : ℕ) → v ≡ leafIn st (n .0) .value → Got.Value v ≡ gotIn st h k
+    unfolding gotBy
+    found-got v q = ap Got.Value q ∙ ap (gotBy st) (sym e) ∙ is-got
+
+    pub found-overwritten : (st′ : List ℕ) (v : ℕ) → st′ ≡ setValue st (n .0) v → Did (overwrittenIn st h k v) Changed.Done st′
+    unfolding overwrittenBy
+    found-overwritten st′ v q = did _ _ (sym (is-overwritten v) ∙ ap (overwrittenBy st v) e) (refl, q)

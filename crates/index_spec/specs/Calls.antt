@@ -18,6 +18,7 @@ use Rattle.node.specs.declared.header.Head.the-variants.{Good, Bad}
 use Rattle.trie_spec.specs.Find.{findIn}
 use Rattle.trie_spec.specs.Writes.{Outcome, outcome, insertIn, removeUnder}
 use Rattle.trie_spec.specs.declared.find.Exact.{Exact}
+use Rattle.trie_spec.specs.declared.find.Found.{Found}
 use Rattle.index_spec.specs.Layout.{withLimit}
 use Rattle.index_spec.specs.Replies.{emptyOf, insertedOf}
 use Rattle.index_spec.specs.declared.changed.Changed.{Changed}
@@ -59,10 +60,10 @@ insertCall k v st = behind (outcome Inserted.Store st) (outcome Inserted.Key st)
 -- ---- get
 
 -- "A read that meets a refusal hands the same refusal up."
-abbrev pub refusedGet : Exact → Got
-refusedGet (Exact.Leaf n s) = Got.Store
-refusedGet Exact.Absent = Got.Absent
-refusedGet Exact.Wrong = Got.Store
+abbrev pub refusedGet : Found → Got
+refusedGet (Found.Leaf n) = Got.Store
+refusedGet Found.Absent = Got.Absent
+refusedGet Found.Wrong = Got.Store
 
 -- the value that a lookup found
 abbrev pub gotOf : List ℕ → Exact → Got
@@ -82,6 +83,11 @@ abbrev pub refusedChange : Exact → Changed
 refusedChange (Exact.Leaf n s) = Changed.Store
 refusedChange Exact.Absent = Changed.Absent
 refusedChange Exact.Wrong = Changed.Store
+
+abbrev pub refusedOverwrite : Found → Changed
+refusedOverwrite (Found.Leaf n) = Changed.Store
+refusedOverwrite Found.Absent = Changed.Absent
+refusedOverwrite Found.Wrong = Changed.Store
 
 -- the value of the leaf that a lookup found is replaced
 abbrev pub overwritten : List ℕ → ℕ → Exact → Outcome Changed

@@ -1,14 +1,14 @@
 // A page: one way down to where the keys with the prefix stand, one to the closest leaf to the key that the page begins at, and a walk over what is given.
+use lookup::descent::DEPTH;
+use lookup::descent::descend;
+use lookup::descent::find_closest_leaf;
+use lookup::keys::critical;
+use lookup::keys::nibble;
 use node::child::LeafNo;
 use node::child::Link;
 use node::child::Linked;
 use node::child::link_of;
 use node::header::Header;
-use trie::descent::DEPTH;
-use trie::descent::descend;
-use trie::descent::find_closest_leaf;
-use trie::keys::critical;
-use trie::keys::nibble;
 use trie_spec::descent::Closest;
 use trie_spec::descent::Walked;
 use walk::walk::Progress;

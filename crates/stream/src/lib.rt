@@ -5,7 +5,12 @@ use line::pieces::Held;
 ghost use mathlib.Core.Path.{_≡_};
 ghost use Prim.Native.Nat.{_≤_};
 ghost use lib.ListN.{length};
+ghost use Rattle.promises.specs.Meaning.{Means};
+ghost use Rattle.promises.specs.Says.{empty};
+ghost use Rattle.index_spec.specs.Layout.{layout};
+ghost use Rattle.line.specs.Code.{heldIn};
 ghost use Rattle.command.specs.Listing.{outputRoom};
+ghost use Rattle.stream.specs.Fed.{Fed};
 
 const STORE_SIZE: usize = 65536;
 
@@ -16,10 +21,18 @@ const LINE_ROOM: usize = 200;
 // The longest answer.
 const OUTPUT_ROOM: usize = 141 * 511 + 11;
 
+// "It has a store of 65,536 bytes (511 keys) and limit 128."
+fn new_store(store: &mut [u8])
+    requires { ⌜ length (now store) ≡ 65536 ⌝ }
+    ensures { λ _. ⌜ Means layout (now (store .exit)) (empty 128 511) ⌝ }
+{
+    index::create::create(store, LIMIT);
+}
+
 // Each line that ends in a piece is answered as soon as it is there. The answer is what is held of the line after them.
 fn feed(store: &mut [u8], piece: &[u8], held: Held, line: &mut [u8], out: &mut [u8]) -> Held
     requires { ⌜ (length (now store) ≤ 65536) × (held .count ≤ 200) × (200 ≤ length (now line)) × (length (now out) ≡ outputRoom) ⌝ }
-    ensures { λ r. ⌜ r .count ≤ 200 ⌝ }
+    ensures { λ r. ⌜ Fed (heldIn held (now (line .entry))) (now (piece .entry)) (now (line .exit)) (now (store .entry)) (now (store .exit)) r ⌝ }
 {
     let mut h = held;
     let mut at: usize = 0;
@@ -72,6 +85,6 @@ pub fn serve(piece: &mut [u8]) {
     let line: &mut [u8] = &mut line_space;
     let mut out_space = [0u8; OUTPUT_ROOM];
     let out: &mut [u8] = &mut out_space;
-    index::create::create(store, LIMIT);
+    new_store(store);
     answer_all(store, piece, line, out);
 }

@@ -1,9 +1,9 @@
 // Insertion: the closest leaf, the critical position, and a second descent to where the new leaf goes.
-use crate::descent::descend;
-use crate::descent::find_closest_leaf;
-use crate::keys::critical;
-use crate::keys::nibble;
 use crate::relink::relink;
+use lookup::descent::descend;
+use lookup::descent::find_closest_leaf;
+use lookup::keys::critical;
+use lookup::keys::nibble;
 use node::branch::make_branch;
 use node::child::BranchNo;
 use node::child::Child;

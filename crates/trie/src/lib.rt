@@ -1,8 +1,5 @@
-// The port of trie.rs: descents, lookup, insertion and removal in a store whose header is right. Every function equals a definition over the bytes, on
-// any bytes; the public calls stand above this crate.
-pub mod descent;
-pub mod find;
+// The port of trie.rs: insertion and removal in a store whose header is right, over the descents and the lookup of the crate lookup. Every function equals
+// a definition over the bytes, on any bytes; the public calls stand above this crate.
 pub mod insert;
-pub mod keys;
 pub mod relink;
 pub mod remove;

@@ -1,5 +1,6 @@
 pub mod WalkLaws
 pub mod FindLaws
+pub mod LeafLaws
 pub mod WriteLaws
 pub mod UnreadLaws
 pub mod HeldLaws

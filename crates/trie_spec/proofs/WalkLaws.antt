@@ -1,6 +1,6 @@
 -- The descents over bytes, one step at a time, as the loops take them: `a` is the whole answer. Assumes nothing.
 use Prim.Native.Nat.{ℕ, zero, suc, _+_, _-_, _≤_, _<_}
-use mathlib.Core.Path.{_≡_, refl, sym, ap, _∙_}
+use mathlib.Core.Path.{_≡_, refl, sym, ap, _∙_, subst}
 use mathlib.Core.Logic.{_⊎_, ⊎-elim}
 use mathlib.Core.List.{List}
 use mathlib.Core.Option.{Option, none, some}
@@ -10,7 +10,7 @@ use denote.Enum.Declared.{declared, tagOf}
 use borrow.Author.Tests.{le-leb, lt-leb}
 use lib.ListN.{length}
 use Rattle.model.specs.Nibble.{nibble, slotCount}
-use Rattle.node.specs.Child.{numberIn}
+use Rattle.node.specs.Child.{numberIn, toBranch}
 use Rattle.sparse_array.specs.Entries.{Entry, lookup, head}
 use Rattle.sparse_array.specs.Answers.{orElse}
 use Rattle.node.specs.Layout.{start, Room}
@@ -25,8 +25,9 @@ use Rattle.node.specs.declared.child.Child.the-variants.{Leaf as LeafChild, Bra
 use Rattle.node.specs.declared.child.Link.{Link}
 use Rattle.node.specs.declared.child.Linked.{Linked}
 use Rattle.node.specs.declared.child.Linked.the-variants.{To, Absent, Wrong as WrongLink}
-use Rattle.trie_spec.specs.Walk.{step, onLinked, walk, near}
-use Rattle.trie_spec.specs.declared.descent.Spot.the-variants.{Under}
+use Rattle.trie_spec.specs.Walk.{steps, step, first, onLinked, walk, near}
+use Rattle.trie_spec.specs.declared.descent.Spot.{Spot}
+use Rattle.trie_spec.specs.declared.descent.Spot.the-variants.{Root, Under}
 use Rattle.trie_spec.specs.declared.descent.Step.{Step}
 use Rattle.trie_spec.specs.declared.descent.Walked.{Walked}
 use Rattle.trie_spec.specs.declared.descent.Walked.the-variants.{At, Missing, Wrong}
@@ -96,6 +97,10 @@ same-leaf n c d e i = i ∙ sym e
 pub same-branch : (b : BranchNo) (c d : Child) → d ≡ Branch b → c ≡ Branch b → c ≡ d
 same-branch b c d e i = i ∙ sym e
 
+-- a link to a branch is that of its number and position
+pub same-link : (l : Link) (b : BranchNo) → l .child ≡ Branch b → l ≡ toBranch (b .0) (l .position)
+same-link l b e = ap (λ (c : Child). record { child = c; position = l .position }) e
+
 -- ---- the closest descent
 
 module _ (st : List ℕ) (cap : ℕ) (k : List ℕ) (d : ℕ) (m : Link) where
@@ -134,6 +139,90 @@ module _ (st : List ℕ) (cap : ℕ) (k : List ℕ) (d : ℕ) (m : Link) where
       close-next zero l inv ne g = absurd (ne refl)
       close-next (suc f) l inv ne g = rw sub-one (rw g at (closed-in f inv))
 
+-- the last step but one
+pub one-left : (f : ℕ) → (f ≡ 0 → ⊥) → f - 1 ≡ 0 → f ≡ 1
+one-left zero ne e = absurd (ne refl)
+one-left (suc f) ne e = omega (arith, e)
+
+pub step-under : (f d : ℕ) → f + d ≡ steps → (f ≡ 0 → ⊥) → (f ≡ 1 → ⊥) → d + 1 < steps
+step-under zero d e ne n1 = absurd (ne refl)
+step-under (suc zero) d e ne n1 = absurd (n1 refl)
+step-under (suc (suc f)) d e ne n1 = omega (arith, e)
+
+pub none-left : (f : ℕ) → f ≡ 1 → f - 1 ≡ 0
+none-left f e = rw e
+
+-- ---- from a branch on, as the loops go: `number` and `p` are the branch and its position, f the steps left, g those left after this one
+
+module _ (st : List ℕ) (cap : ℕ) (k : List ℕ) (d number p : ℕ) (a : Closest) (slot : ℕ) (is : slot ≡ nibble k p) (r : Linked)
+    (q : r ≡ nearIn cap slot (childrenIn st number)) (f : ℕ) (inv : near st cap k f d (toBranch number p) ≡ a) (ne : f ≡ 0 → ⊥) where
+  pub near-missing : r ≡ Absent → NoLeaf ≡ a
+  near-missing = close-missing st cap k d (toBranch number p) a slot is (record { 0 = number }) refl r q f inv ne
+
+  pub near-wrong : r ≡ WrongLink → NoLeaf ≡ a
+  near-wrong = close-wrong st cap k d (toBranch number p) a slot is (record { 0 = number }) refl r q f inv ne
+
+  module _ (l : Link) (t : r ≡ To l) (g e : ℕ) (gone : g ≡ f - 1) (deeper : e ≡ d + 1) where
+    near-to : near st cap k g e l ≡ a
+    near-to = rw (gone, deeper) (close-next st cap k d (toBranch number p) a slot is (record { 0 = number }) refl r q f l inv ne t)
+
+    pub near-end : g ≡ 0 → NoLeaf ≡ a
+    near-end z = close-end st cap k e l a g near-to z
+
+    pub near-met : (g ≡ 0 → ⊥) → (n : LeafNo) → l .child ≡ LeafChild n → Leaf n e ≡ a
+    near-met z n i = close-leaf st cap k e l a g n near-to z i
+
+    pub near-on : (b : BranchNo) (number′ p′ : ℕ) → l .child ≡ Branch b → number′ ≡ b .0 → p′ ≡ l .position → near st cap k g e (toBranch number′ p′) ≡ a
+    near-on b number′ p′ i u v = rw (u, v) (subst (λ (m : Link). near st cap k g e m ≡ a) (same-link l b i) near-to)
+
+module _ (st : List ℕ) (cap : ℕ) (k : List ℕ) (stop number p : ℕ) (at above : Spot) (a : Walked) (f : ℕ)
+    (inv : walk st cap k stop f (step (toBranch number p) at above) ≡ a) (ne : f ≡ 0 → ⊥) where
+  pub walk-stopped : (c : Child) (s : Step) → c ≡ Branch (record { 0 = number }) → s ≡ step (toBranch number p) at above → stop ≤ p → At c s ≡ a
+  walk-stopped c s i j h = rw (i, j) (met-stop st cap k stop (step (toBranch number p) at above) a f (record { 0 = number }) (Branch (record { 0 = number })) inv ne refl refl h)
+
+  module _ (h : p < stop) (slot : ℕ) (is : slot ≡ nibble k p) (r : Linked) (q : r ≡ linkedIn cap slot (childrenIn st number)) where
+    pub walk-missing : (b : BranchNo) → b ≡ record { 0 = number } → r ≡ Absent → Missing b slot ≡ a
+    walk-missing b i g = rw i (met-missing st cap k stop (step (toBranch number p) at above) a slot is (record { 0 = number }) refl h r q f inv ne g)
+
+    pub walk-wrong : r ≡ WrongLink → Wrong ≡ a
+    walk-wrong g = met-wrong st cap k stop (step (toBranch number p) at above) a slot is (record { 0 = number }) refl h r q f inv ne g
+
+    module _ (l : Link) (t : r ≡ To l) (g : ℕ) (gone : g ≡ f - 1) where
+      walk-to : walk st cap k stop g (step l (Under (record { 0 = number }) slot) at) ≡ a
+      walk-to = rw gone (met-next st cap k stop (step (toBranch number p) at above) a slot is (record { 0 = number }) refl h r q f l inv ne t)
+
+      pub walk-end : g ≡ 0 → Wrong ≡ a
+      walk-end z = met-end st cap k stop (step l (Under (record { 0 = number }) slot) at) a g walk-to z
+
+      pub walk-met : (g ≡ 0 → ⊥) → (n : LeafNo) → l .child ≡ LeafChild n
+          → At (LeafChild n) (record { child = LeafChild n; position = l .position; at = Under (record { 0 = number }) slot; above = at }) ≡ a
+      walk-met z n i =
+          subst (λ (c : Child). At c (record { child = c; position = l .position; at = Under (record { 0 = number }) slot; above = at }) ≡ a) i
+          (met-leaf st cap k stop (step l (Under (record { 0 = number }) slot) at) a g n (l .child) walk-to z i i)
+
+      pub walk-on : (b : BranchNo) (number′ p′ : ℕ) (at′ : Spot) → l .child ≡ Branch b → number′ ≡ b .0 → p′ ≡ l .position → at′ ≡ Under (record { 0 = number }) slot
+          → walk st cap k stop g (step (toBranch number′ p′) at′ at) ≡ a
+      walk-on b number′ p′ at′ i u v w = rw (u, v, w) (subst (λ (m : Link). walk st cap k stop g (step m (Under (record { 0 = number }) slot) at) ≡ a) (same-link l b i) walk-to)
+
+-- ---- from the root on
+
+module _ (st : List ℕ) (cap : ℕ) (k : List ℕ) (l : Link) where
+  pub first-leaf : (stop : ℕ) (n : LeafNo) → l .child ≡ LeafChild n
+      → At (LeafChild n) (record { child = LeafChild n; position = l .position; at = Root; above = Root }) ≡ walk st cap k stop steps (first l)
+  first-leaf stop n e =
+      subst (λ (c : Child). At c (record { child = c; position = l .position; at = Root; above = Root }) ≡ walk st cap k stop steps (first l)) e
+      (met-leaf st cap k stop (first l) (walk st cap k stop steps (first l)) steps n (l .child) refl (λ z. omega arith) e e)
+
+  pub first-branch : (stop : ℕ) (b : BranchNo) (r : Walked) → l .child ≡ Branch b → r ≡ walk st cap k stop steps (first (toBranch (b .0) (l .position)))
+      → r ≡ walk st cap k stop steps (first l)
+  first-branch stop b r e q = q ∙ ap (λ (m : Link). walk st cap k stop steps (first m)) (sym (same-link l b e))
+
+  pub first-near : (n : LeafNo) → l .child ≡ LeafChild n → Leaf n 0 ≡ near st cap k steps 0 l
+  first-near n e = close-leaf st cap k 0 l (near st cap k steps 0 l) steps n refl (λ z. omega arith) e
+
+  pub first-below : (b : BranchNo) (r : Closest) → l .child ≡ Branch b → r ≡ near st cap k steps 0 (toBranch (b .0) (l .position)) → r ≡ near st cap k steps 0 l
+  first-below b r e q = q ∙ ap (near st cap k steps 0) (sym (same-link l b e))
+
 -- ---- what is met lies in the store
 
 pub linked-below : (cap : ℕ) (o : Option ℕ) (l : Link) → linked cap o ≡ To l → numberIn (l .child) < cap
@@ -154,6 +243,14 @@ link-below cap slot es r l p q = linked-below cap (lookup slot es) l (sym p ∙ 
 
 pub near-below : (cap slot : ℕ) (es : List Entry) (r : Linked) (l : Link) → r ≡ nearIn cap slot es → r ≡ To l → numberIn (l .child) < cap
 near-below cap slot es r l p q = linked-below cap (orElse (lookup slot es) (head es)) l (sym p ∙ q)
+
+-- the branch or the leaf that a link leads to
+module _ (cap : ℕ) (r : Linked) (l : Link) (q : r ≡ To l) (o : Option ℕ) (is : r ≡ linked cap o) where
+  pub number-below : (b : BranchNo) (m : ℕ) → l .child ≡ Branch b → m ≡ b .0 → m < cap
+  number-below b m e i = rw i (branch-below cap (l .child) b (linked-below cap o l (sym is ∙ q)) e)
+
+  pub number-leaf : (n : LeafNo) → l .child ≡ LeafChild n → n .0 < cap
+  number-leaf n e = leaf-below cap (l .child) n (linked-below cap o l (sym is ∙ q)) e
 
 pub slot-fits : (slot : ℕ) → slot < slotCount → slot ≤ 16
 slot-fits slot h = omega arith

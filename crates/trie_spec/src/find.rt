@@ -1,4 +1,4 @@
-// The answer of an exact lookup.
+// The answers of an exact lookup.
 use crate::descent::Step;
 use node::child::LeafNo;
 
@@ -6,6 +6,14 @@ use node::child::LeafNo;
 pub enum Exact {
     // the leaf, and the last step of the descent to it
     Leaf(LeafNo, Step),
+    Absent,
+    // the store holds no tree
+    Wrong,
+}
+
+// The leaf that an exact lookup finds, without the way to it.
+pub enum Found {
+    Leaf(LeafNo),
     Absent,
     // the store holds no tree
     Wrong,

@@ -2,6 +2,7 @@
 // down ends at an entry that is given or ends the walk, but for the one to the key that the page begins at; and a page costs no more than its entries and two
 // more, each with the branches above it.
 use crate::entry::write_entry;
+use lookup::keys::nibble;
 use node::branch::child_at;
 use node::branch::child_count;
 use node::branch::child_place;
@@ -11,7 +12,6 @@ use node::child::Child;
 use node::child::LeafNo;
 use node::child::Link;
 use node::child::Linked;
-use trie::keys::nibble;
 ghost use mathlib.Core.Path.{_≡_};
 ghost use mathlib.Core.Option.{some};
 ghost use Prim.Native.Nat.{_≤_, _<_, _+_};

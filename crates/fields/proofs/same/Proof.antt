@@ -1,33 +1,31 @@
--- `fields::same` meets its contract: the invariant counts the bytes below i that differ. Assumes nothing.
+-- `fields::same` meets its contract: the flag says whether the bytes below i agree. Assumes nothing.
 use mathlib.Core.Path.{sym, ap}
 use mathlib.Core.Logic.{⊎-elim}
 use lib.ListN.{length}
 use Prim.Native.Nat.{_≤_, _-_}
-use Rattle.fields.proofs.CommonLaws.{Counted, counted-start, counted-differ, counted-agree, counted-same, counted-not}
+use Rattle.fields.specs.Common.{Says}
+use Rattle.fields.proofs.CommonLaws.{AgreeBelow, agreed-start, agreed-differ, agreed-more, agreed-all}
 use borrow.Author.Needs.{needs}
 use Rattle.fields.proofs.same.Statement.{statement}
 use Rattle.fields.proofs.same.Tie as tie
 
 abbrev Inv-loop : tie.InvT-loop
-Inv-loop a b n differ₀ i₀ differ i = (i ≤ n) × Counted a b i differ
+Inv-loop a b n equal₀ i₀ equal i = (i ≤ n) × Says equal (AgreeBelow a b i)
 
 abbrev μ-loop : tie.MeasureT-loop
-μ-loop a b n differ₀ i₀ differ i = n - i
+μ-loop a b n equal₀ i₀ equal i = n - i
 
 returns : tie.Need-returns Inv-loop μ-loop
 returns c = λ e. c .if1 .taken (sym (ap length e))
 
 loop-holds : tie.Need-loop-holds Inv-loop μ-loop
-loop-holds c = search (counted-start, needs)
+loop-holds c = (search needs, search (agreed-start, needs))
 
 shared-slice-read-if2 : tie.Need-shared-slice-read-if2 Inv-loop μ-loop
 shared-slice-read-if2 c = search needs
 
 shared-slice-read-if2-2 : tie.Need-shared-slice-read-if2-2 Inv-loop μ-loop
 shared-slice-read-if2-2 c = search needs
-
-add-differ : tie.Need-add-differ Inv-loop μ-loop
-add-differ c = search needs
 
 add-i : tie.Need-add-i Inv-loop μ-loop
 add-i c = search needs
@@ -36,13 +34,10 @@ loop-less : tie.Need-loop-less Inv-loop μ-loop
 loop-less c = search needs
 
 loop-again : tie.Need-loop-again Inv-loop μ-loop
-loop-again c = ⊎-elim (λ w. (search needs, search (counted-differ, needs))) (λ w. (search needs, search (counted-agree, needs))) (c .if2 .came)
+loop-again c = ⊎-elim (λ w. (search needs, search (agreed-differ, needs))) (λ w. (search needs, search (agreed-more, needs))) (c .if2 .came)
 
 returns-2 : tie.Need-returns-2 Inv-loop μ-loop
-returns-2 c = search (counted-same, needs)
-
-returns-3 : tie.Need-returns-3 Inv-loop μ-loop
-returns-3 c = search (counted-not, needs)
+returns-2 c = search (agreed-all, needs)
 
 pub same-spec : {M : Type 1} → statement M
 same-spec =
@@ -54,9 +49,7 @@ same-spec =
     loop-holds
     shared-slice-read-if2
     shared-slice-read-if2-2
-    add-differ
     add-i
     loop-less
     loop-again
-    returns-2
-    returns-3)
+    returns-2)

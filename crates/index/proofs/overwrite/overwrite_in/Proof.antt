@@ -1,12 +1,12 @@
 -- `index::overwrite::overwrite_in` meets its contract: by whether the lookup found a leaf. Assumes nothing.
-use Rattle.index_spec.proofs.CallLaws.{found-room}
+use Rattle.trie_spec.proofs.LeafLaws.{met-room}
 use Rattle.index_spec.proofs.WayLaws.{refused-overwritten, found-overwritten}
 use borrow.Author.Needs.{needs}
 use Rattle.index.proofs.overwrite.overwrite_in.Statement.{statement}
 use Rattle.index.proofs.overwrite.overwrite_in.Tie as tie
 
-find-exact-leaf-requires : tie.Need-find-exact-leaf-requires
-find-exact-leaf-requires c κs = search needs
+find-leaf-requires : tie.Need-find-leaf-requires
+find-leaf-requires c κs = search needs
 
 enum-known-found : tie.Need-enum-known-found
 enum-known-found c = search needs
@@ -21,7 +21,7 @@ returns : tie.Need-returns
 returns c = search (refused-overwritten, needs)
 
 set-value-requires : tie.Need-set-value-requires
-set-value-requires c κs = search (found-room, needs)
+set-value-requires c κs = search (met-room, needs)
 
 same-length-2 : tie.Need-same-length-2
 same-length-2 c = search needs
@@ -33,7 +33,7 @@ pub overwrite-in-spec : {M : Type 1} → statement M
 overwrite-in-spec =
     tie.close
     (tie.spec
-    find-exact-leaf-requires
+    find-leaf-requires
     enum-known-found
     refused-requires
     same-length

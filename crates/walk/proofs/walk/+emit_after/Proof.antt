@@ -16,7 +16,7 @@ use Rattle.walk.proofs.walk.give.Reads as give-reads
 use Rattle.walk.proofs.walk.stopped.Reads as stopped-reads
 use Rattle.walk.proofs.walk.wrong.Reads as wrong-reads
 use Rattle.node.proofs.branch.get_child.Reads as get-child-reads
-use Rattle.trie.proofs.keys.nibble.Reads as nibble-reads
+use Rattle.lookup.proofs.keys.nibble.Reads as nibble-reads
 use Rattle.walk.proofs.walk.+emit_after.{statement}
 use Rattle.walk.proofs.walk.+emit_after.Tie.{close}
 

@@ -1,8 +1,8 @@
 -- `trie::keys::critical` meets its contract: the first byte that differs, and its half. Assumes nothing.
-use Rattle.trie.proofs.KeyCode.{doubled-fits, first-ended, second-ended, halves-differ, lows-differ}
+use Rattle.lookup.proofs.KeyCode.{doubled-fits, first-ended, second-ended, halves-differ, lows-differ}
 use borrow.Author.Needs.{needs}
-use Rattle.trie.proofs.keys.critical.Statement.{statement}
-use Rattle.trie.proofs.keys.critical.Tie as tie
+use Rattle.lookup.proofs.keys.critical.Statement.{statement}
+use Rattle.lookup.proofs.keys.critical.Tie as tie
 
 first-difference-requires : tie.Need-first-difference-requires
 first-difference-requires c κs = search needs

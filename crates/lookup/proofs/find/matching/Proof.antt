@@ -1,8 +1,8 @@
 -- `trie::find::matching` meets its contract: by the kinds of child, and by the leaf's key. Assumes nothing.
 use Rattle.trie_spec.proofs.FindLaws.{leaf-room, is-leaf, is-other}
 use borrow.Author.Needs.{needs}
-use Rattle.trie.proofs.find.matching.Statement.{statement}
-use Rattle.trie.proofs.find.matching.Tie as tie
+use Rattle.lookup.proofs.find.matching.Statement.{statement}
+use Rattle.lookup.proofs.find.matching.Tie as tie
 
 enum-known-met : tie.Need-enum-known-met
 enum-known-met c = search needs

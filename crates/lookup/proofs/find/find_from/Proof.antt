@@ -1,8 +1,8 @@
 -- `trie::find::find_from` meets its contract: by the three answers of the descent. Assumes nothing.
 use Rattle.trie_spec.proofs.FindLaws.{lies-at, from-at, from-stands, from-missing, from-wrong}
 use borrow.Author.Needs.{needs}
-use Rattle.trie.proofs.find.find_from.Statement.{statement}
-use Rattle.trie.proofs.find.find_from.Tie as tie
+use Rattle.lookup.proofs.find.find_from.Statement.{statement}
+use Rattle.lookup.proofs.find.find_from.Tie as tie
 
 descend-requires : tie.Need-descend-requires
 descend-requires c κs = search needs

@@ -4,8 +4,8 @@ use Prim.Native.Nat.{_/_}
 use borrow.Author.Needs.{needs}
 use native.Mathlib.Omega.{arith}
 use Rattle.model.proofs.NibbleAt.{nibble-high, nibble-low, nibble-past}
-use Rattle.trie.proofs.keys.nibble.Statement.{statement}
-use Rattle.trie.proofs.keys.nibble.Tie as tie
+use Rattle.lookup.proofs.keys.nibble.Statement.{statement}
+use Rattle.lookup.proofs.keys.nibble.Tie as tie
 
 returns : tie.Need-returns
 returns c = (sym (nibble-past (c .before .args .key .now) (c .before .args .p) (omega arith)), omega arith)

@@ -1,8 +1,8 @@
 -- `trie::find::find_exact_leaf` meets its contract: by the ways out: an empty store, a root link that leads nowhere, and a root. Assumes nothing.
 use Rattle.trie_spec.proofs.FindLaws.{none-stored, root-below, root-found, root-lost}
 use borrow.Author.Needs.{needs}
-use Rattle.trie.proofs.find.find_exact_leaf.Statement.{statement}
-use Rattle.trie.proofs.find.find_exact_leaf.Tie as tie
+use Rattle.lookup.proofs.find.find_exact_leaf.Statement.{statement}
+use Rattle.lookup.proofs.find.find_exact_leaf.Tie as tie
 
 returns : tie.Need-returns
 returns c = (search (none-stored, needs), tt)
