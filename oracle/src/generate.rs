@@ -87,8 +87,10 @@ pub struct Sequence {
     pub calls: Vec<Call>,
     pub listings: usize,
     model: Model,
-    // hashes, dumps and checks after each call
+    // hashes and dumps now and then
     small: bool,
+    // a check after each call
+    checked: bool,
 }
 
 impl Sequence {
@@ -98,7 +100,7 @@ impl Sequence {
         answer
     }
 
-    // A call, with a hash before and after it or a check after it, now and then.
+    // A call, with a hash before and after it now and then, and a check after it.
     fn watched(&mut self, rng: &mut Rng, call: Call) -> Vec<u8> {
         let hash = self.small && rng.chance(30);
         if hash {
@@ -108,7 +110,7 @@ impl Sequence {
         if hash {
             self.push(Call::Hash);
         }
-        if self.small || rng.chance(1) && rng.chance(10) {
+        if self.checked {
             self.push(Call::Check);
         }
         if self.small && rng.chance(4) {
@@ -180,6 +182,7 @@ pub fn sequence(rng: &mut Rng, capacity: usize, turns: usize) -> Sequence {
         listings: 0,
         model: Model::default(),
         small: capacity <= 40,
+        checked: capacity <= 511,
     };
     let slack = if rng.chance(50) { 0 } else { rng.below(128) };
     s.push(Call::Space(if rng.chance(2) { rng.below(256) } else { 128 * (capacity + 1) + slack }));
@@ -241,6 +244,7 @@ pub fn largest(rng: &mut Rng) -> Sequence {
         listings: 0,
         model: Model::default(),
         small: false,
+        checked: false,
     };
     let slack = rng.below(384);
     s.push(Call::Space(128 * 16385 + slack));
