@@ -22,12 +22,11 @@ use Rattle.promises.specs.Meaning.{Lawful, Meaning, Means, Reply, alone}
 use Rattle.promises.specs.Says.{saying, withMap, unless, keyed, newAnswer, putAnswer, storedAnswer, valueReply, insertSays, getSays, overwriteSays, removeSays}
 use Rattle.promises.specs.Promises.{Kind, Reads, Writes, insertKinds, getKinds, overwriteKinds, removeKinds, Insert, Get, Overwrite, Remove}
 use Rattle.promises.proofs.Bridge.{Wrote, after-either, some-room, insert-answer, insert-after, get-reply, remove-after, overwrite-after}
-use Rattle.node.specs.Layout.{start, Room}
+use Rattle.node.specs.Layout.{start}
 use Rattle.node.specs.Header.{headIn, headOf}
 use Rattle.node.specs.declared.header.Header.{Header}
 use Rattle.node.specs.declared.header.Head.{Head}
 use Rattle.node.specs.declared.header.Head.the-variants.{Good, Bad}
-use Rattle.node.proofs.HeaderLaws.{block-in}
 use Rattle.trie_spec.specs.Accepted.{Accepted}
 use Rattle.trie_spec.specs.Walk.{Within}
 use Rattle.trie_spec.specs.Find.{findIn, Stands}
@@ -361,9 +360,6 @@ module _ (k st st′ : List ℕ) (x : Head) (h : Header) (p : x ≡ headOf st) (
       (λ m w n u. remove-after layout lawful st st′ m k w u)
 
 -- ---- what a lookup found lies in the store
-
-pub found-room : (st : List ℕ) (h : Header) (z : Exact) (n : LeafNo) (s : Step) → start (h .capacity) ≤ length st → Stands (h .capacity) z → z ≡ Exact.Leaf n s → Room st (n .0)
-found-room st h z n s fits q e = block-in st (h .capacity) (n .0) fits (subst (Stands (h .capacity)) e q .0)
 
 pub found-below : (cap : ℕ) (z : Exact) (n : LeafNo) (s : Step) → Stands cap z → z ≡ Exact.Leaf n s → n .0 < cap
 found-below cap z n s q e = subst (Stands cap) e q .0

@@ -59,7 +59,7 @@ module _ (st : List ℕ) (cap : ℕ) (k : List ℕ) where
   unfolding ends
   ends-over f l a inv z = rw z at inv
 
-  pub root-leaf : (f : ℕ) (l : Link) (n : LeafNo) → (f ≡ 0 → ⊥) → l .child ≡ LeafChild n → Found.Leaf n ≡ ends st cap k f l
+  root-leaf : (f : ℕ) (l : Link) (n : LeafNo) → (f ≡ 0 → ⊥) → l .child ≡ LeafChild n → Found.Leaf n ≡ ends st cap k f l
   root-leaf zero l n ne e = absurd (ne refl)
   root-leaf (suc f) l n ne e = sym (ends-leaf f l n e)
 

@@ -11,8 +11,7 @@ use borrow.Author.Tests.{le-leb, lt-leb}
 use lib.ListN.{length}
 use Rattle.model.specs.Nibble.{nibble, slotCount}
 use Rattle.node.specs.Child.{numberIn, toBranch}
-use Rattle.sparse_array.specs.Entries.{Entry, lookup, head}
-use Rattle.sparse_array.specs.Answers.{orElse}
+use Rattle.sparse_array.specs.Entries.{Entry, lookup}
 use Rattle.node.specs.Layout.{start, Room}
 use Rattle.node.specs.Branch.{childrenIn, linked, linkedIn, nearIn}
 use Rattle.node.proofs.ChildLaws.{within}
@@ -65,11 +64,11 @@ module _ (st : List ℕ) (cap : ℕ) (k : List ℕ) where
       met-end zero inv e = inv
       met-end (suc f) inv e = absurd (omega arith)
 
-      pub met-leaf : (f : ℕ) (n : LeafNo) (c : Child) → walk st cap k stop f s ≡ a → (f ≡ 0 → ⊥) → s .child ≡ LeafChild n → c ≡ LeafChild n → At c s ≡ a
+      met-leaf : (f : ℕ) (n : LeafNo) (c : Child) → walk st cap k stop f s ≡ a → (f ≡ 0 → ⊥) → s .child ≡ LeafChild n → c ≡ LeafChild n → At c s ≡ a
       met-leaf zero n c inv ne e i = absurd (ne refl)
       met-leaf (suc f) n c inv ne e i = ap (λ (z : Child). At z s) (i ∙ sym e) ∙ sym (walk-leaf f n e) ∙ inv
 
-      pub met-stop : (f : ℕ) (b : BranchNo) (c : Child) → walk st cap k stop f s ≡ a → (f ≡ 0 → ⊥) → s .child ≡ Branch b → c ≡ Branch b → stop ≤ s .position → At c s ≡ a
+      met-stop : (f : ℕ) (b : BranchNo) (c : Child) → walk st cap k stop f s ≡ a → (f ≡ 0 → ⊥) → s .child ≡ Branch b → c ≡ Branch b → stop ≤ s .position → At c s ≡ a
       met-stop zero b c inv ne e i h = absurd (ne refl)
       met-stop (suc f) b c inv ne e i h = ap (λ (z : Child). At z s) (i ∙ sym e) ∙ sym (walk-stop f b e h) ∙ inv
 
@@ -78,24 +77,17 @@ module _ (st : List ℕ) (cap : ℕ) (k : List ℕ) where
         stepped : (f : ℕ) → walk st cap k stop (suc f) s ≡ a → onLinked (λ l. walk st cap k stop f (step l (Under b slot) (s .at))) (Missing b slot) Wrong r ≡ a
         stepped f inv = rw is (sym (walk-step f b e h r (rw (← is) q)) ∙ inv)
 
-        pub met-missing : (f : ℕ) → walk st cap k stop f s ≡ a → (f ≡ 0 → ⊥) → r ≡ Absent → Missing b slot ≡ a
+        met-missing : (f : ℕ) → walk st cap k stop f s ≡ a → (f ≡ 0 → ⊥) → r ≡ Absent → Missing b slot ≡ a
         met-missing zero inv ne g = absurd (ne refl)
         met-missing (suc f) inv ne g = rw g at (stepped f inv)
 
-        pub met-wrong : (f : ℕ) → walk st cap k stop f s ≡ a → (f ≡ 0 → ⊥) → r ≡ WrongLink → Wrong ≡ a
+        met-wrong : (f : ℕ) → walk st cap k stop f s ≡ a → (f ≡ 0 → ⊥) → r ≡ WrongLink → Wrong ≡ a
         met-wrong zero inv ne g = absurd (ne refl)
         met-wrong (suc f) inv ne g = rw g at (stepped f inv)
 
-        pub met-next : (f : ℕ) (l : Link) → walk st cap k stop f s ≡ a → (f ≡ 0 → ⊥) → r ≡ To l → walk st cap k stop (f - 1) (step l (Under b slot) (s .at)) ≡ a
+        met-next : (f : ℕ) (l : Link) → walk st cap k stop f s ≡ a → (f ≡ 0 → ⊥) → r ≡ To l → walk st cap k stop (f - 1) (step l (Under b slot) (s .at)) ≡ a
         met-next zero l inv ne g = absurd (ne refl)
         met-next (suc f) l inv ne g = rw sub-one (rw g at (stepped f inv))
-
--- the node met is the last step's
-pub same-leaf : (n : LeafNo) (c d : Child) → d ≡ LeafChild n → c ≡ LeafChild n → c ≡ d
-same-leaf n c d e i = i ∙ sym e
-
-pub same-branch : (b : BranchNo) (c d : Child) → d ≡ Branch b → c ≡ Branch b → c ≡ d
-same-branch b c d e i = i ∙ sym e
 
 -- a link to a branch is that of its number and position
 pub same-link : (l : Link) (b : BranchNo) → l .child ≡ Branch b → l ≡ toBranch (b .0) (l .position)
@@ -119,7 +111,7 @@ module _ (st : List ℕ) (cap : ℕ) (k : List ℕ) (d : ℕ) (m : Link) where
     close-end zero inv e = inv
     close-end (suc f) inv e = absurd (omega arith)
 
-    pub close-leaf : (f : ℕ) (n : LeafNo) → near st cap k f d m ≡ a → (f ≡ 0 → ⊥) → m .child ≡ LeafChild n → Leaf n d ≡ a
+    close-leaf : (f : ℕ) (n : LeafNo) → near st cap k f d m ≡ a → (f ≡ 0 → ⊥) → m .child ≡ LeafChild n → Leaf n d ≡ a
     close-leaf zero n inv ne e = absurd (ne refl)
     close-leaf (suc f) n inv ne e = sym (near-leaf f n e) ∙ inv
 
@@ -127,15 +119,15 @@ module _ (st : List ℕ) (cap : ℕ) (k : List ℕ) (d : ℕ) (m : Link) where
       closed-in : (f : ℕ) → near st cap k (suc f) d m ≡ a → onLinked (λ l. near st cap k f (d + 1) l) NoLeaf NoLeaf r ≡ a
       closed-in f inv = sym (near-step f b e r (rw (← is) q)) ∙ inv
 
-      pub close-missing : (f : ℕ) → near st cap k f d m ≡ a → (f ≡ 0 → ⊥) → r ≡ Absent → NoLeaf ≡ a
+      close-missing : (f : ℕ) → near st cap k f d m ≡ a → (f ≡ 0 → ⊥) → r ≡ Absent → NoLeaf ≡ a
       close-missing zero inv ne g = absurd (ne refl)
       close-missing (suc f) inv ne g = rw g at (closed-in f inv)
 
-      pub close-wrong : (f : ℕ) → near st cap k f d m ≡ a → (f ≡ 0 → ⊥) → r ≡ WrongLink → NoLeaf ≡ a
+      close-wrong : (f : ℕ) → near st cap k f d m ≡ a → (f ≡ 0 → ⊥) → r ≡ WrongLink → NoLeaf ≡ a
       close-wrong zero inv ne g = absurd (ne refl)
       close-wrong (suc f) inv ne g = rw g at (closed-in f inv)
 
-      pub close-next : (f : ℕ) (l : Link) → near st cap k f d m ≡ a → (f ≡ 0 → ⊥) → r ≡ To l → near st cap k (f - 1) (d + 1) l ≡ a
+      close-next : (f : ℕ) (l : Link) → near st cap k f d m ≡ a → (f ≡ 0 → ⊥) → r ≡ To l → near st cap k (f - 1) (d + 1) l ≡ a
       close-next zero l inv ne g = absurd (ne refl)
       close-next (suc f) l inv ne g = rw sub-one (rw g at (closed-in f inv))
 
@@ -240,9 +232,6 @@ leaf-below cap c n h e = rw e at h
 
 pub link-below : (cap slot : ℕ) (es : List Entry) (r : Linked) (l : Link) → r ≡ linkedIn cap slot es → r ≡ To l → numberIn (l .child) < cap
 link-below cap slot es r l p q = linked-below cap (lookup slot es) l (sym p ∙ q)
-
-pub near-below : (cap slot : ℕ) (es : List Entry) (r : Linked) (l : Link) → r ≡ nearIn cap slot es → r ≡ To l → numberIn (l .child) < cap
-near-below cap slot es r l p q = linked-below cap (orElse (lookup slot es) (head es)) l (sym p ∙ q)
 
 -- the branch or the leaf that a link leads to
 module _ (cap : ℕ) (r : Linked) (l : Link) (q : r ≡ To l) (o : Option ℕ) (is : r ≡ linked cap o) where
