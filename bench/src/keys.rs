@@ -18,22 +18,28 @@ fn digits(rng: &mut Rng, count: usize) -> String {
 
 // Identifiers as scanners and archives make them, of 30 to 62 bytes: studies of some series of some hundred slices, numbered one after the other or at random.
 fn identifiers(rng: &mut Rng, count: usize) -> (Vec<Key>, Key) {
+    const MAKERS: [&str; 4] = ["1.2.840.113619.2", "1.3.12.2.1107.5", "1.3.46.670589.11", "2.16.840.1.113669"];
     let mut keys = Vec::with_capacity(count);
     let mut first = None;
     while keys.len() < count {
-        let study = format!("1.2.840.113619.2.{}.{}.{}", 1 + rng.below(400), 1 + rng.below(9), digits(rng, 10));
+        let maker = MAKERS[rng.below(4)];
+        let len = 4 + rng.below(7);
+        let study = format!("{maker}.{}.{}.{}", 1 + rng.below(400), 1 + rng.below(9), digits(rng, len));
         first.get_or_insert_with(|| study.clone().into_bytes());
         for _ in 0..1 + rng.below(4) {
             let archived = rng.chance(50);
             let len = 4 + rng.below(6);
             let series = format!("{study}.{}", digits(rng, len));
             for slice in 1..=50 + rng.below(150) {
-                let tail = if archived { digits(rng, 60 - series.len()) } else { slice.to_string() };
+                let room = 61 - series.len();
+                let size = room - rng.below(room.min(12));
+                let tail = if archived { digits(rng, size) } else { slice.to_string() };
                 keys.push(format!("{series}.{tail}").into_bytes());
             }
         }
     }
     keys.truncate(count);
+    assert!(keys.iter().all(|key| (30..=62).contains(&key.len())), "an identifier has other than 30 to 62 bytes");
     (keys, first.unwrap())
 }
 

@@ -1,7 +1,9 @@
 // The three maps that are measured, by the same few operations.
 use crate::keys::Key;
+use std::cell::RefCell;
 use std::collections::BTreeMap;
 use std::hint::black_box;
+use std::ops::Bound;
 
 pub trait Map {
     fn new(count: usize) -> Self;
@@ -14,8 +16,9 @@ pub trait Map {
     fn list(&self, prefix: &Key) -> usize;
 }
 
+// What a listing is for: the key is read, and its value.
 fn visit(key: &[u8], value: u32) {
-    black_box((key.as_ptr(), key.len(), value));
+    black_box(key.iter().fold(value, |sum, byte| sum.wrapping_add(u32::from(*byte))));
 }
 
 // ---- this index, by the archive's functions
@@ -31,14 +34,25 @@ extern "C" {
     fn ponybollard_next_page(store: *const u8, store_len: usize, prefix: *const u8, prefix_len: usize, inclusive: bool, after: *const u8, after_len: usize, size: u32, out: *mut u8, out_len: usize, entries: *mut usize, bytes: *mut usize, end: *mut bool) -> u32;
 }
 
-pub struct Index(Vec<u8>);
+// the store, and the room for a page: both are the caller's, and made beforehand
+pub struct Index(Vec<u8>, RefCell<Box<[u8; 74 * SIZE as usize]>>);
+
+// the entries of a page
+const SIZE: u32 = 256;
 
 // SAFETY of each block: a pointer stands with its slice's length, and what is written is lent alone.
+impl Index {
+    // The store made anew, with no key.
+    pub fn create(&mut self) {
+        assert_eq!(unsafe { ponybollard_create(self.0.as_mut_ptr(), self.0.len(), 128) }, 0);
+    }
+}
+
 impl Map for Index {
     fn new(count: usize) -> Index {
-        let mut store = vec![0; 128 * (count + 1)];
-        assert_eq!(unsafe { ponybollard_create(store.as_mut_ptr(), store.len(), 128) }, 0);
-        Index(store)
+        let mut index = Index(vec![0; 128 * (count + 1)], RefCell::new(Box::new([0; 74 * SIZE as usize])));
+        index.create();
+        index
     }
 
     fn insert(&mut self, key: &mut Key, value: u32) -> bool {
@@ -60,8 +74,7 @@ impl Map for Index {
     }
 
     fn list(&self, prefix: &Key) -> usize {
-        const SIZE: u32 = 256;
-        let mut out = [0; 74 * SIZE as usize];
+        let out = &mut **self.1.borrow_mut();
         let (mut all, mut entries, mut bytes, mut end) = (0, 0, 0, false);
         let (store, len) = (self.0.as_ptr(), self.0.len());
         let mut answer = unsafe {
@@ -153,7 +166,7 @@ impl Map for Tree {
 
     fn list(&self, prefix: &Key) -> usize {
         let mut all = 0;
-        for (key, value) in self.0.range(prefix.clone()..).take_while(|e| e.0.starts_with(prefix)) {
+        for (key, value) in self.0.range::<[u8], _>((Bound::Included(&prefix[..]), Bound::Unbounded)).take_while(|e| e.0.starts_with(prefix)) {
             visit(key, *value);
             all += 1;
         }

@@ -1,16 +1,17 @@
 /* The index as a C library: it maps keys of 0 to 64 bytes to 32-bit values, in a store of bytes that the caller lends.
  *
- * Link target/library/libcapi.a, which `bindings/library` leaves there: it calls nothing but C's memmove, has no state of its own, and takes no memory.
+ * Link target/library/libcapi.a, which `bindings/library` leaves there: it calls nothing but C's memory functions (memmove and its like), has no state of its own, and takes no memory.
  *
  * Every call, on any bytes whatever: it ends, reads and writes nothing but what it is lent, and answers with one of the numbers below.
  * With an answer from 10 up no byte of the store or of the output is changed, and the numbers beside the answer are 0 (or false).
  * On a store that ponybollard_check accepts each answer is given exactly when its comment says and no answer of a lower number from 10 up is: 10 to 16 is
  * the order of the tests. The store stays one that the check accepts.
- * A store that is not accepted may be refused with PONYBOLLARD_STORE by any call; where the slice is too short or the header is wrong, it is.
+ * A store that is not accepted is refused with PONYBOLLARD_STORE by ponybollard_check, may be by any other call but ponybollard_create, and is by all of these
+ * where the slice is too short or the header is wrong.
  *
  * What the caller owes: pointers to as many bytes as the length says (where a length is 0 the pointer is not used, and may be NULL), that stay lent
- * and unchanged by others until the call returns; a store or an output that overlaps nothing else that the same call is lent; the pointers to single
- * values are never NULL.
+ * and unchanged by others until the call returns; that whatever the call writes (a store or an output that is not const, a single value) overlaps nothing
+ * else that the same call is lent; the pointers to single values are never NULL.
  * Calls on different stores may run at the same time; on one store, any number that only read (const store), or one that writes.
  */
 #ifndef PONYBOLLARD_H
@@ -30,11 +31,11 @@ extern "C" {
 #define PONYBOLLARD_DONE UINT32_C(0)
 /* An insertion found the key stored, and it has the new value. */
 #define PONYBOLLARD_REPLACED UINT32_C(1)
-/* The slice is too short, its header is wrong, or it holds no tree. */
+/* The slice is too short, its header is wrong, or it is otherwise not what the check accepts. */
 #define PONYBOLLARD_STORE UINT32_C(10)
 /* A key, a prefix or an after-key is longer than 64 bytes. */
 #define PONYBOLLARD_KEY UINT32_C(11)
-/* The key is not stored, the leaf closest to it is at the height limit or below it, and a new branch would lie above that leaf. */
+/* The key is not stored, the leaf closest to it has as many branches above it as the height limit or more, and a new branch would lie above that leaf. */
 #define PONYBOLLARD_HEIGHT UINT32_C(12)
 /* The key is not stored, and as many keys are as the capacity. */
 #define PONYBOLLARD_FULL UINT32_C(13)

@@ -4,7 +4,7 @@ use std::path::PathBuf;
 fn main() {
     println!("cargo:rerun-if-env-changed=PONYBOLLARD_LIB");
     let folder = match std::env::var_os("PONYBOLLARD_LIB") {
-        Some(folder) => PathBuf::from(folder),
+        Some(folder) => PathBuf::from(&folder).canonicalize().unwrap_or_else(|why| panic!("PONYBOLLARD_LIB names no folder, {folder:?}: {why}")),
         None => PathBuf::from(std::env::var_os("CARGO_MANIFEST_DIR").unwrap()).join("../../target/library"),
     };
     let archive = folder.join("libcapi.a");

@@ -55,7 +55,7 @@ pub const fn store_size(keys: usize) -> usize {
 /// Why a call was refused: the first of these, in this order, that holds. A refused call changes no byte.
 #[derive(Clone, Copy, Debug, PartialEq, Eq, Hash)]
 pub enum Error {
-    /// The bytes are no store: too short, a wrong header, or no tree.
+    /// The bytes are no store: too short, a wrong header, or otherwise not what the check accepts.
     Store,
     /// A key, a prefix or an after-key is longer than [`KEY_LIMIT`].
     Key,

@@ -11,8 +11,9 @@ use Rattle.model.specs.Key.{Bytes}
 use Rattle.model.specs.Numbers.{most}
 use Rattle.fields.specs.Part.{part}
 use Rattle.fields.proofs.NumberLaws.{little-below}
-use Rattle.sparse_array.specs.Entries.{Entry, up, pack}
-use Rattle.sparse_array.specs.Array.{size, entries, present, bitmapOf, itemAt}
+use Rattle.bitmap.specs.Entries.{Entry, up, pack}
+use Rattle.bitmap.specs.Bits.{present}
+use Rattle.sparse_array.specs.Array.{size, entries, bitmapOf, itemAt}
 use Rattle.node.specs.Layout.{arrayAt}
 use Rattle.node.specs.Child.{toLeaf, toBranch, linkOf, itemOf}
 use Rattle.node.specs.Branch.{arrayIn, childrenIn}

@@ -10,7 +10,7 @@ use Rattle.node.specs.Layout.{last}
 use Rattle.records.specs.Chain.{Kind}
 use Rattle.node.proofs.HeaderLaws.{and-left, and-right}
 use Rattle.records.proofs.ChainLaws.{ChainIn}
-use Rattle.audit.specs.Accepts.{chainRight}
+use Rattle.audit_tree.specs.Accepts.{chainRight}
 
 module _ (K : Kind) (st : List ℕ) (cap : ℕ) where
   pub right-chain : (n x : ℕ) → chainRight K st cap n x ≡ true → (xs : List ℕ) × ChainIn K st cap x xs × (length xs ≡ n)

@@ -1,6 +1,3 @@
-pub mod Contracts
-pub mod SlotLaws
-pub mod NodeLaws
 pub mod Chained
 pub mod Bytewise
 pub mod Reached

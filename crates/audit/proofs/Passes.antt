@@ -21,12 +21,12 @@ use Rattle.node.specs.declared.child.LeafNo.{LeafNo}
 use Rattle.node.specs.declared.child.Link.{Link}
 use Rattle.trie_spec.specs.Accepted.{linkTo, codes, memoryOf}
 use Rattle.trie_spec.proofs.HeldLaws.{Inside, inside-at, link-back}
-use Rattle.audit.specs.Walk.{keyOf, tally, none-yet, leafSeen, stands, head, addKid, kidsSeen, seen}
-use Rattle.audit.specs.declared.tree.Seen.{Seen}
-use Rattle.audit.specs.declared.tree.Seen.the-variants.{Good}
-use Rattle.audit.specs.declared.tree.Tally.{Tally}
-use Rattle.audit.specs.declared.tree.Counted.the-variants.{Going}
-use Rattle.audit.proofs.Contracts.{two-kids}
+use Rattle.audit_tree.specs.Walk.{keyOf, tally, none-yet, leafSeen, stands, head, addKid, kidsSeen, seen}
+use Rattle.audit_tree.specs.declared.tree.Seen.{Seen}
+use Rattle.audit_tree.specs.declared.tree.Seen.the-variants.{Good}
+use Rattle.audit_tree.specs.declared.tree.Tally.{Tally}
+use Rattle.audit_tree.specs.declared.tree.Counted.the-variants.{Going}
+use Rattle.audit_tree.proofs.Contracts.{two-kids}
 use Rattle.audit.proofs.Reached.{inside-rest}
 
 -- the record of the first leaf

@@ -18,7 +18,7 @@ use Rattle.pictures.specs.Records.{tallies, at, leafTimes, branchTimes, branche
 use Rattle.pictures.specs.Stored.{Child, toLeaf, toBranch, root, row, Holds, HoldsAll, here}
 use Rattle.pictures.proofs.Frame.{at-same}
 use Rattle.pictures.proofs.ChainLaws.{at-split}
-use Rattle.sparse_array.specs.Entries.{Entry}
+use Rattle.bitmap.specs.Entries.{Entry}
 use Rattle.node.specs.Child.{numberIn, linkOf, itemOf}
 use Rattle.node.specs.Layout.{freeSize}
 use Rattle.node.specs.Leaf.{Is, leafIn}

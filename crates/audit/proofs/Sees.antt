@@ -19,7 +19,7 @@ use Rattle.pictures.specs.Records.{tallies, at, leafTimes, branchTimes, leaves 
 use Rattle.pictures.specs.Stored.{root, row, Holds, HoldsAll}
 use Rattle.pictures.proofs.ChainLaws.{at-other}
 use Rattle.fields.proofs.PartLaws.{length-part}
-use Rattle.sparse_array.specs.Entries.{Entry, Rising}
+use Rattle.bitmap.specs.Entries.{Entry, Rising}
 use Rattle.node.specs.Layout.{start}
 use Rattle.node.specs.Child.{numberIn, linkOf, itemOf, toLeaf as leafLink, toBranch as branchLink}
 use Rattle.node.specs.Leaf.{keySize, leafIn}
@@ -36,13 +36,13 @@ use Rattle.node.specs.declared.child.Linked.the-variants.{To, Absent, Wrong}
 use Rattle.trie_spec.specs.Walk.{onLinked, onNode}
 use Rattle.trie_spec.specs.Accepted.{linkTo, codes, memoryOf}
 use Rattle.trie_spec.proofs.HeldLaws.{Inside}
-use Rattle.audit.specs.Walk.{keyOf, tally, none-yet, leafSeen, stands, head, addKid, finish, onCounted, kidsSeen, seen}
-use Rattle.audit.specs.declared.tree.Seen.{Seen}
-use Rattle.audit.specs.declared.tree.Seen.the-variants.{Good, Bad}
-use Rattle.audit.specs.declared.tree.Tally.{Tally}
-use Rattle.audit.specs.declared.tree.Counted.{Counted}
-use Rattle.audit.specs.declared.tree.Counted.the-variants.{Going, Stop}
-use Rattle.audit.proofs.SlotLaws.{children-rise}
+use Rattle.audit_tree.specs.Walk.{keyOf, tally, none-yet, leafSeen, stands, head, addKid, finish, onCounted, kidsSeen, seen}
+use Rattle.audit_tree.specs.declared.tree.Seen.{Seen}
+use Rattle.audit_tree.specs.declared.tree.Seen.the-variants.{Good, Bad}
+use Rattle.audit_tree.specs.declared.tree.Tally.{Tally}
+use Rattle.audit_tree.specs.declared.tree.Counted.{Counted}
+use Rattle.audit_tree.specs.declared.tree.Counted.the-variants.{Going, Stop}
+use Rattle.audit_tree.proofs.SlotLaws.{children-rise}
 use Rattle.audit.proofs.Reached.{some-or-none}
 use Rattle.audit.proofs.Bytewise.{bytes-part, Small, children-small, item-back}
 

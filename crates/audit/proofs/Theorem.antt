@@ -37,11 +37,11 @@ use Rattle.node.specs.declared.header.Head.the-variants.{Good as GoodHead, Bad 
 use Rattle.trie_spec.specs.Walk.{steps, onLinked}
 use Rattle.trie_spec.specs.Accepted.{memoryOf, leafUses, branchUses, Rooted, Kept, Accepted}
 use Rattle.trie_spec.proofs.HeldLaws.{bytes-of, Inside, link-back}
-use Rattle.audit.specs.Walk.{seen, countsRight, treeRight}
-use Rattle.audit.specs.Accepts.{chainRight, keptRight, recordsRight, onHead, acceptsIn}
+use Rattle.audit_tree.specs.Walk.{seen, countsRight, treeRight}
+use Rattle.audit_tree.specs.Accepts.{chainRight, keptRight, recordsRight, onHead, acceptsIn}
 use Rattle.audit.specs.declared.Checked.the-variants.{Done, Store}
-use Rattle.audit.specs.declared.tree.Seen.{Seen}
-use Rattle.audit.specs.declared.tree.Seen.the-variants.{Good, Bad}
+use Rattle.audit_tree.specs.declared.tree.Seen.{Seen}
+use Rattle.audit_tree.specs.declared.tree.Seen.the-variants.{Good, Bad}
 use Rattle.audit.proofs.Chained.{right-chain, chain-right}
 use Rattle.audit.proofs.Bytewise.{bytes-get, item-back}
 use Rattle.audit.proofs.Reached.{leaf-once, leaf-apart, branch-once, branch-apart}

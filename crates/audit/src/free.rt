@@ -12,7 +12,7 @@ ghost use Prim.Native.Nat.{_≤_, _-_};
 ghost use lib.ListN.{length};
 ghost use Rattle.node.specs.Layout.{start};
 ghost use Rattle.records.specs.Chain.{leaves, branches};
-ghost use Rattle.audit.specs.Accepts.{chainRight};
+ghost use Rattle.audit_tree.specs.Accepts.{chainRight};
 
 // The chain of the leaves that are not in use.
 pub fn leaves_free(store: &[u8], capacity: u16, first: u16, used: u16) -> bool

@@ -5,11 +5,10 @@
 // walk has left has two children or more, so there are fewer of these than leaves met; those that it has not left stand on one path, of at most STEPS. A branch
 // costs its 17 slots and a comparison of two keys for each child. A chain is followed for as many steps as records are not in use.
 pub mod free;
-pub mod tree;
 
 use crate::free::branches_free;
 use crate::free::leaves_free;
-use crate::tree::tree_right;
+use audit_tree::tree::tree_right;
 use node::header::Head;
 use node::header::Header;
 use node::header::read_head;
@@ -20,7 +19,7 @@ ghost use lib.ListN.{length};
 ghost use Rattle.model.specs.Picture.{Tree};
 ghost use Rattle.node.specs.Layout.{start};
 ghost use Rattle.trie_spec.specs.Accepted.{Accepted};
-ghost use Rattle.audit.specs.Accepts.{recordsRight, acceptsIn};
+ghost use Rattle.audit_tree.specs.Accepts.{recordsRight, acceptsIn};
 
 pub enum Checked {
     Done,

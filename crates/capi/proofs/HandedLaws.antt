@@ -20,7 +20,7 @@ use Rattle.index_spec.specs.declared.is_empty.Empty.{Empty}
 use Rattle.index_spec.specs.declared.pages.Mode.{Mode}
 use Rattle.index_spec.specs.declared.pages.Paged.{Paged}
 use Rattle.index_spec.specs.declared.set_limit.Limited.{Limited}
-use Rattle.capi.specs.Handed.{bare, valued, told, paged, foundEmpty, modeNamed, replied}
+use Rattle.numbers.specs.Handed.{bare, valued, told, paged, foundEmpty, modeNamed, replied}
 
 -- ---- each answer, put together from its numbers
 

@@ -1,20 +1,20 @@
 // The public calls for programs in C, C++ and Rust, each under its plain name: a slice is a pointer and a length, an answer is its number, and what stands
 // beside an answer goes through a reference, which is 0 or no with a refusal. Each has the contracts of the index's call: its promise, and what it does
 // on any bytes (`is`). bindings/c/ponybollard.h declares them.
-use crate::numbers::changed_number;
-use crate::numbers::check_number;
-use crate::numbers::create_number;
-use crate::numbers::empty_number;
-use crate::numbers::found_empty;
-use crate::numbers::found_value;
-use crate::numbers::get_number;
-use crate::numbers::insert_number;
-use crate::numbers::limit_number;
-use crate::numbers::mode_named;
-use crate::numbers::page_bytes;
-use crate::numbers::page_end;
-use crate::numbers::page_entries;
-use crate::numbers::page_number;
+use numbers::numbers::changed_number;
+use numbers::numbers::check_number;
+use numbers::numbers::create_number;
+use numbers::numbers::empty_number;
+use numbers::numbers::found_empty;
+use numbers::numbers::found_value;
+use numbers::numbers::get_number;
+use numbers::numbers::insert_number;
+use numbers::numbers::limit_number;
+use numbers::numbers::mode_named;
+use numbers::numbers::page_bytes;
+use numbers::numbers::page_end;
+use numbers::numbers::page_entries;
+use numbers::numbers::page_number;
 ghost use mathlib.Core.Path.{_≡_};
 ghost use Rattle.trie_spec.specs.Writes.{Did};
 ghost use Rattle.promises.specs.Promises.{Create, Check, IsEmpty, SetLimit, Insert, Get, Overwrite, Remove, FirstPage, NextPage};
@@ -22,9 +22,7 @@ ghost use Rattle.index_spec.specs.Layout.{layout};
 ghost use Rattle.index_spec.specs.Replies.{createReply, emptyReply, limitReply, insertReply, getReply, changedReply, pageReply, modeOf};
 ghost use Rattle.index_spec.specs.Calls.{createCall, emptyCall, limitCall, insertCall, getCall, overwriteCall, removeCall};
 ghost use Rattle.index_spec.specs.Pages.{firstCall, nextCall};
-ghost use Rattle.capi.specs.Handed.{bare, valued, told, paged, modeNamed, replied};
-
-pub mod numbers;
+ghost use Rattle.numbers.specs.Handed.{bare, valued, told, paged, modeNamed, replied};
 
 // A new, empty store in the bytes lent.
 #[no_mangle]

@@ -13,7 +13,7 @@ use Rattle.index_spec.specs.declared.insert.Inserted.{Inserted}
 use Rattle.index_spec.specs.declared.get.Got.{Got}
 use Rattle.index_spec.specs.declared.changed.Changed.{Changed}
 use Rattle.index_spec.specs.Replies.{insertReply, getReply, changedReply}
-use Rattle.command.specs.Answered.{insertTold, getTold, removeTold, Answered}
+use Rattle.listings.specs.Answered.{insertTold, getTold, removeTold, Answered}
 
 insert-told : (q : Inserted) → insertTold q ≡ insertAnswer (insertReply q .answer)
 insert-told Inserted.New = refl

@@ -1,8 +1,2 @@
 pub mod AnswerLaws
-pub mod LineLaws
-pub mod PageLines
-pub mod Listings
-pub mod ListedLaws
-pub mod ShowLaws
-pub mod RestLaws
 pub mod TurnLaws

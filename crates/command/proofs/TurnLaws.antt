@@ -11,7 +11,7 @@ use Rattle.promises.specs.Meaning.{Meaning, Means}
 use Rattle.index_spec.specs.Layout.{layout}
 use Rattle.line.specs.Line.{Line}
 use Rattle.line.specs.Answer.{answerText, answerLine}
-use Rattle.command.specs.Answered.{Answered}
+use Rattle.listings.specs.Answered.{Answered}
 use Rattle.line.specs.Run.{heldLine, takeLine, wrote, feed}
 use Rattle.line.specs.Run as run
 use Rattle.line.specs.Code.{lineIn, parsedSize, LineIs, Wrote, heldIn, takenIn, takenSize, takenMoves, takenHeld, TakenIs}

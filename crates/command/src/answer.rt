@@ -9,7 +9,7 @@ ghost use Prim.Native.Nat.{_≤_};
 ghost use lib.ListN.{length};
 ghost use Rattle.index_spec.specs.Layout.{layout};
 ghost use Rattle.line.specs.Line;
-ghost use Rattle.command.specs.Answered.{insertTold, getTold, removeTold, Answered};
+ghost use Rattle.listings.specs.Answered.{insertTold, getTold, removeTold, Answered};
 
 fn told_insert(r: Inserted) -> Answer
     ensures { λ a. ⌜ a ≡ insertTold r ⌝ }

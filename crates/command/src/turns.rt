@@ -2,7 +2,6 @@
 use crate::answer::answer_delete;
 use crate::answer::answer_get;
 use crate::answer::answer_insert;
-use crate::listing::answer_list;
 use index::pages::Mode;
 use line::pieces::Held;
 use line::pieces::Taken;
@@ -11,14 +10,15 @@ use line::pieces::take_line;
 use line::reading::Parsed;
 use line::writing::Answer;
 use line::writing::put_answer;
+use listings::listing::answer_list;
 ghost use mathlib.Core.Path.{_≡_};
 ghost use Prim.Native.Nat.{_≤_};
 ghost use lib.ListN.{length};
 ghost use Rattle.index_spec.specs.Layout.{layout};
 ghost use Rattle.line.specs.Run.{heldLine};
 ghost use Rattle.line.specs.Code.{lineIn, parsedSize, heldIn};
-ghost use Rattle.command.specs.Answered.{Answered};
-ghost use Rattle.command.specs.Listing.{outputRoom};
+ghost use Rattle.listings.specs.Answered.{Answered};
+ghost use Rattle.listings.specs.Listing.{outputRoom};
 ghost use Rattle.command.specs.Turned.{Turned, Finished};
 
 // The answer to a line that was read. Its key stands in the buffer.

@@ -1,17 +1,24 @@
 -- What two byte strings have in common from the front: they agree up to there, differ there, and are equal exactly if it is all of both.
 -- Assumes nothing.
 use mathlib.Core.Path.{_≡_, refl, ap, sym, _∙_}
-use mathlib.Core.Bool.{Bool, true, false, cond}
+use mathlib.Core.Bool.{Bool, true, false, cond, false≢true}
 use mathlib.Core.List.{List, [], _∷_}
-use Prim.Native.Nat.{ℕ, zero, suc, _+_, _≤_, _<_}
+use Prim.Native.Nat.{ℕ, zero, suc, _+_, _-_, _≤_, _<_}
 use native.Mathlib.Nat.{le-of-suc-le-suc}
 use native.Mathlib.Omega.{arith}
 use lib.Dec.{eqb}
+use native.Mathlib.Decide.{decLt}
+use mir.Val.{Fits}
+use mir.Syntax.{w8}
 use lib.ListN.{length, getD}
 use lib.Seq.{ext-getD}
 use borrow.Author.Count.{below-more}
 use borrow.Author.Tests.{eqb-true, eqb-false, eq-eqb, ne-eqb}
-use Rattle.fields.specs.Common.{common, Says}
+use Rattle.fields.specs.Common.{common, Says, Agree}
+use Rattle.fields.specs.Part.{part, splice}
+use Rattle.fields.specs.Number.{little}
+use Rattle.fields.proofs.PartLaws.{length-part, length-splice, getD-part, getD-splice-below, getD-splice-in}
+use Rattle.fields.proofs.NumberLaws.{little-one, little-alike}
 
 pub common-first : (xs ys : List ℕ) → common xs ys ≤ length xs
 unfolding common
@@ -94,20 +101,60 @@ module _ (xs ys : List ℕ) (i : ℕ) (a : AgreeBelow xs ys i) where
   pub first-ended : length xs ≤ i → i ≤ length xs → i ≤ length ys → i ≡ common xs ys
   first-ended h l k = common-is xs ys i (omega arith) (omega arith) a (λ m n e. omega arith)
 
--- ---- the loop of `same`: the flag says whether the bytes below i agree
+-- ---- the comparisons for equality: bytes one by one, and eight as one number
 
 module _ (xs ys : List ℕ) where
-  pub agreed-start : (f : Bool) → f ≡ true → Says f (AgreeBelow xs ys 0)
-  agreed-start f p = rw p (λ i h. omega arith)
+  pub agree-none : AgreeBelow xs ys 0
+  agree-none i h = absurd (omega arith)
 
-  module _ (i : ℕ) where
-    pub agreed-differ : (f : Bool) → f ≡ false → (getD xs i 0 ≡ getD ys i 0 → ⊥) → Says f (AgreeBelow xs ys (i + 1))
-    agreed-differ f p ne = rw p (λ a. ne (a i (omega arith)))
+  pub byte-differs : (i : ℕ) → (getD xs i 0 ≡ getD ys i 0 → ⊥) → xs ≡ ys → ⊥
+  byte-differs i d q = d (ap (λ (zs : List ℕ). getD zs i 0) q)
 
-    pub agreed-more : (f g : Bool) → Says f (AgreeBelow xs ys i) → g ≡ f → getD xs i 0 ≡ getD ys i 0 → Says g (AgreeBelow xs ys (i + 1))
-    agreed-more true g a p e = rw p (below-more _ _ a e)
-    agreed-more false g a p e = rw p (λ b. a (λ j h. b j (omega arith)))
+  pub agree-all : (i : ℕ) → length xs ≡ length ys → length xs ≤ i → AgreeBelow xs ys i → xs ≡ ys
+  agree-all i l k a = ext-getD 0 xs ys l (λ j m. a j (omega arith))
 
-  pub agreed-all : (n i : ℕ) (f : Bool) → n ≡ length xs → length ys ≡ n → i ≤ n → n ≤ i → Says f (AgreeBelow xs ys i) → Says f (xs ≡ ys)
-  agreed-all n i true e l h k a = ext-getD 0 xs ys (sym e ∙ sym l) (λ j m. a j (omega arith))
-  agreed-all n i false e l h k a = λ q. a (λ j m. ap (λ (zs : List ℕ). getD zs j 0) q)
+  -- eight bytes more are copied, the last eight at the end
+  pub eight-copied : (i : ℕ) (zs : List ℕ) → i + 8 ≤ length xs → i + 8 ≤ length ys → AgreeBelow xs ys i → zs ≡ splice xs i (part ys i 8) → AgreeBelow zs ys (i + 8)
+  eight-copied i zs f g a e j h = ap (λ (z : List ℕ). getD z j 0) e ∙ go (decLt j i)
+    where
+      size : length (part ys i 8) ≡ 8
+      size = length-part ys i 8 g
+
+      go : Dec (j < i) → getD (splice xs i (part ys i 8)) j 0 ≡ getD ys j 0
+      go (yes l) = getD-splice-below xs i (part ys i 8) j l ∙ a j l
+      go (no l) =
+          let p : i + (j - i) ≡ j = omega arith in
+          rw (p) at (getD-splice-in xs i (part ys i 8) (j - i) (omega (arith, size)) (omega (arith, size)) ∙ getD-part ys i 8 (j - i) (omega arith))
+
+  pub all-copied : (i : ℕ) (zs : List ℕ) (last : ℕ) → length xs ≡ length ys → length ys ≡ last + 8 → last ≤ i → AgreeBelow xs ys i → zs ≡ splice xs last (part ys last 8) → zs ≡ ys
+  all-copied i zs last l n h a e =
+      ext-getD 0 zs ys (ap length e ∙ length-splice xs last (part ys last 8) ∙ l) (λ j m. eight-copied last zs (omega arith) (omega arith) (λ k o. a k (omega arith)) e j (omega (arith, same-size)))
+    where
+      same-size : length zs ≡ length ys
+      same-size = ap length e ∙ length-splice xs last (part ys last 8) ∙ l
+
+  pub eight-says : (at x y : ℕ) (r : Bool) → x ≡ little 8 xs at → y ≡ little 8 ys at → ((i : ℕ) → Fits w8 (getD xs i 0)) → ((i : ℕ) → Fits w8 (getD ys i 0)) → r ≡ eqb x y
+      → Says r (Agree xs ys at 8)
+  eight-says at x y true p q f g e = little-one 8 xs ys at f g (sym p ∙ eqb-true x y (sym e) ∙ q)
+  eight-says at x y false p q f g e = λ a. eqb-false x y (sym e) (p ∙ little-alike 8 xs ys at a ∙ sym q)
+
+  pub eight-differs : (at : ℕ) (f : Bool) → Says f (Agree xs ys at 8) → f ≡ false → xs ≡ ys → ⊥
+  eight-differs at true d e q = absurd (false≢true (sym e))
+  eight-differs at false d e q = d (λ i h k. ap (λ (zs : List ℕ). getD zs i 0) q)
+
+  pub eight-more : (i : ℕ) (f : Bool) → AgreeBelow xs ys i → Says f (Agree xs ys i 8) → f ≡ true → AgreeBelow xs ys (i + 8)
+  eight-more i true a b e j h = go (decLt j i)
+    where
+      go : Dec (j < i) → getD xs j 0 ≡ getD ys j 0
+      go (yes l) = a j l
+      go (no l) = b j (omega arith) h
+  eight-more i false a b e j h = absurd (false≢true e)
+
+  -- the last eight may overlap with those before them
+  pub eight-last : (last i : ℕ) (f : Bool) → length xs ≡ last + 8 → length ys ≡ length xs → last ≤ i → AgreeBelow xs ys i → Says f (Agree xs ys last 8) → Says f (xs ≡ ys)
+  eight-last last i true e l h a b = ext-getD 0 xs ys (sym l) (λ j m. go j m (decLt j i))
+    where
+      go : (j : ℕ) → j < length xs → Dec (j < i) → getD xs j 0 ≡ getD ys j 0
+      go j m (yes k) = a j k
+      go j m (no k) = b j (omega arith) (omega arith)
+  eight-last last i false e l h a b = eight-differs last false b refl

@@ -1,6 +1,6 @@
 -- Numbers in bytes: what is written is read back, a number that lies apart from a write is as it was, a number of a part is one of the whole.
 -- Each law holds for every width and place, and for both orders of the bytes. Assumes nothing.
-use mathlib.Core.Path.{_≡_, refl, ap, ap₂, _∙_}
+use mathlib.Core.Path.{_≡_, refl, sym, ap, ap₂, _∙_}
 use mathlib.Core.List.{List, [], _∷_, reverse, reverse-reverse}
 use mathlib.Core.Logic.{⊎-elim}
 use Prim.Native.Nat.{ℕ, zero, suc, _+_, _*_, _/_, _%_, _^_, _≤_, _<_}
@@ -8,9 +8,13 @@ use native.Mathlib.Nat.{pow-suc}
 use native.Mathlib.Numerals.{add-one, add-two, add-three}
 use native.Mathlib.Omega.{arith}
 use lib.ListN.{length, getD, set, length-reverse}
+use mir.Val.{Fits}
+use mir.Syntax.{w8}
+use native.Mathlib.Decide.{decLt}
+use Rattle.fields.specs.Common.{Agree}
 use Rattle.fields.specs.Part.{part, splice, Apart}
 use Rattle.fields.specs.Number.{value, bytesAt, little, littleBytes, big, bigBytes}
-use Rattle.fields.proofs.PartLaws.{getD-part, getD-splice-below, getD-splice-above, getD-splice-in}
+use Rattle.fields.proofs.PartLaws.{part-zero, part-suc, getD-part, getD-splice-below, getD-splice-above, getD-splice-in}
 
 -- ---- a number and its bytes
 
@@ -112,6 +116,44 @@ pub little-below : (w : ℕ) (xs : List ℕ) (at : ℕ) → ((i : ℕ) → at �
 unfolding little
 little-below w xs at h = value-below w xs at h
 
+-- ---- bytes by their number: no other bytes have it
+
+value-one : (w : ℕ) (xs ys : List ℕ) (at : ℕ) → ((i : ℕ) → getD xs i 0 < 256) → ((i : ℕ) → getD ys i 0 < 256) → value (bytesAt w xs at) ≡ value (bytesAt w ys at) → Agree xs ys at w
+unfolding value bytesAt
+value-one zero xs ys at f g e i h k = absurd (omega arith)
+value-one (suc w) xs ys at f g e i h k = go (value-one w xs ys (suc at) f g (omega (arith, e, f at, g at))) (decLt at i)
+  where
+    go : Agree xs ys (suc at) w → Dec (at < i) → getD xs i 0 ≡ getD ys i 0
+    go rest (yes l) = rest i (omega arith) (omega arith)
+    go rest (no l) = let q : i ≡ at = omega arith in rw q (omega (arith, e, f at, g at))
+
+pub little-one : (w : ℕ) (xs ys : List ℕ) (at : ℕ) → ((i : ℕ) → Fits w8 (getD xs i 0)) → ((i : ℕ) → Fits w8 (getD ys i 0)) → little w xs at ≡ little w ys at → Agree xs ys at w
+unfolding little
+little-one w xs ys at f g e = value-one w xs ys at (λ i. f i .fits) (λ i. g i .fits) e
+
+pub little-alike : (w : ℕ) (xs ys : List ℕ) (at : ℕ) → Agree xs ys at w → little w xs at ≡ little w ys at
+little-alike w xs ys at a = little-agree w xs ys at at (λ i l. a (at + i) (omega arith) (omega arith))
+
+-- the bytes of the number at a place are those that stand there
+little-back : (w : ℕ) (xs : List ℕ) (at : ℕ) → ((i : ℕ) → getD xs i 0 < 256) → littleBytes w (value (bytesAt w xs at)) ≡ bytesAt w xs at
+unfolding littleBytes value bytesAt
+little-back zero xs at f = refl
+little-back (suc w) xs at f =
+    let v : ℕ = value (bytesAt w xs (suc at)) in
+    let b : ℕ = getD xs at 0 in
+    let r : (b + v * 256) % 256 ≡ b = omega (arith, f at) in
+    let q : (b + v * 256) / 256 ≡ v = omega (arith, f at) in
+    rw (r, q, little-back w xs (suc at) f)
+
+pub bytes-are-part : (w : ℕ) (xs : List ℕ) (at : ℕ) → at + w ≤ length xs → bytesAt w xs at ≡ part xs at w
+unfolding bytesAt
+bytes-are-part zero xs at h = sym (part-zero xs at)
+bytes-are-part (suc w) xs at h = rw (part-suc xs at w (omega arith), bytes-are-part w xs (suc at) (omega arith))
+
+pub little-part-back : (w : ℕ) (xs : List ℕ) (at : ℕ) → ((i : ℕ) → Fits w8 (getD xs i 0)) → at + w ≤ length xs → littleBytes w (little w xs at) ≡ part xs at w
+unfolding little
+little-part-back w xs at f h = little-back w xs at (λ i. f i .fits) ∙ bytes-are-part w xs at h
+
 -- ---- the widths in use: what a read computes from the bytes
 
 module _ (xs : List ℕ) (at : ℕ) where
@@ -127,6 +169,10 @@ module _ (xs : List ℕ) (at : ℕ) where
   unfolding little value bytesAt
   little-four = rw (add-one, add-two, add-three) (omega arith)
 
+  pub little-eight : little 8 xs at ≡ little 4 xs at + little 4 xs (at + 4) * 4294967296
+  unfolding little value bytesAt
+  little-eight = let e : at + 4 ≡ suc (suc (suc (suc at))) = omega arith in rw e (omega arith)
+
   pub big-two : big 2 xs at ≡ getD xs at 0 * 256 + getD xs (at + 1) 0
   unfolding big value bytesAt
   big-two = rw add-one (omega arith)
@@ -136,6 +182,12 @@ module _ (xs : List ℕ) (at : ℕ) where
   big-four = rw (add-one, add-two, add-three) (omega arith)
 
 -- ---- and what a write stores, byte by byte
+
+low-of : (x a q : ℕ) → x ≡ a + q * 256 → a % 256 ≡ x % 256
+low-of x a q e = omega arith
+
+rest-of : (x a q : ℕ) → x ≡ a + q * 256 → x / 256 ≡ a / 256 + q
+rest-of x a q e = omega arith
 
 module _ (xs : List ℕ) (at v : ℕ) where
   pub stored-two : v < 65536 → splice xs at (littleBytes 2 v) ≡ set (set xs at (v % 256)) (at + 1) (v / 256)
@@ -154,6 +206,24 @@ module _ (xs : List ℕ) (at v : ℕ) where
       let e : v / 256 / 256 / 256 % 256 ≡ v / 16777216 = omega arith in
       rw (add-one, add-two, add-three, d, e)
 
+  pub stored-eight : splice (splice xs at (littleBytes 4 (v % 4294967296))) (at + 4) (littleBytes 4 (v / 4294967296)) ≡ splice xs at (littleBytes 8 v)
+  unfolding splice littleBytes
+  stored-eight =
+      let e : at + 4 ≡ suc (suc (suc (suc at))) = omega arith in
+      let lo : ℕ = v % 4294967296 in
+      let hi : ℕ = v / 4294967296 in
+      let e₀ : v ≡ lo + hi * 16777216 * 256 = omega arith in
+      let e₁ : v / 256 ≡ lo / 256 + hi * 65536 * 256 = rest-of v lo (hi * 16777216) e₀ ∙ omega arith in
+      let e₂ : v / 256 / 256 ≡ lo / 256 / 256 + hi * 256 * 256 = rest-of (v / 256) (lo / 256) (hi * 65536) e₁ ∙ omega arith in
+      let e₃ : v / 256 / 256 / 256 ≡ lo / 256 / 256 / 256 + hi * 256 = rest-of (v / 256 / 256) (lo / 256 / 256) (hi * 256) e₂ in
+      let z : lo / 256 / 256 / 256 / 256 ≡ 0 = omega arith in
+      let a : lo % 256 ≡ v % 256 = low-of v lo (hi * 16777216) e₀ in
+      let b : lo / 256 % 256 ≡ v / 256 % 256 = low-of (v / 256) (lo / 256) (hi * 65536) e₁ in
+      let c : lo / 256 / 256 % 256 ≡ v / 256 / 256 % 256 = low-of (v / 256 / 256) (lo / 256 / 256) (hi * 256) e₂ in
+      let d : lo / 256 / 256 / 256 % 256 ≡ v / 256 / 256 / 256 % 256 = low-of (v / 256 / 256 / 256) (lo / 256 / 256 / 256) hi e₃ in
+      let f : hi ≡ v / 256 / 256 / 256 / 256 = sym (rest-of (v / 256 / 256 / 256) (lo / 256 / 256 / 256) hi e₃ ∙ rw z (omega arith)) in
+      rw (e, a, b, c, d, f)
+
   pub stored-two-big : v < 65536 → splice xs at (bigBytes 2 v) ≡ set (set xs at (v / 256)) (at + 1) (v % 256)
   unfolding splice littleBytes bigBytes
   stored-two-big h = let e : v / 256 % 256 ≡ v / 256 = omega arith in rw (add-one, e)
@@ -165,3 +235,12 @@ module _ (xs : List ℕ) (at v : ℕ) where
       let d : v / 256 / 256 % 256 ≡ v / 65536 % 256 = omega arith in
       let e : v / 256 / 256 / 256 % 256 ≡ v / 16777216 = omega arith in
       rw (add-one, add-two, add-three, d, e)
+
+-- eight bytes as one number, by halves
+pub halves-stored : (xs ys zs : List ℕ) (at v : ℕ) → ys ≡ splice xs at (littleBytes 4 (v % 4294967296)) → zs ≡ splice ys (at + 4) (littleBytes 4 (v / 4294967296))
+    → zs ≡ splice xs at (littleBytes 8 v)
+halves-stored xs ys zs at v p q = q ∙ ap (λ (s : List ℕ). splice s (at + 4) (littleBytes 4 (v / 4294967296))) p ∙ stored-eight xs at v
+
+pub word-stored : (xs ys zs : List ℕ) (at v : ℕ) → ((i : ℕ) → Fits w8 (getD ys i 0)) → at + 8 ≤ length ys → v ≡ little 8 ys at → zs ≡ splice xs at (littleBytes 8 v)
+    → zs ≡ splice xs at (part ys at 8)
+word-stored xs ys zs at v f h p q = q ∙ ap (splice xs at) (ap (littleBytes 8) p ∙ little-part-back 8 ys at f h)

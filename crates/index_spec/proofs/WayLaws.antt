@@ -21,7 +21,7 @@ use Rattle.node.specs.declared.child.LeafNo.{LeafNo}
 use Rattle.node.specs.declared.header.Header.{Header}
 use Rattle.node.specs.declared.header.Head.{Head}
 use Rattle.node.specs.declared.header.Head.the-variants.{Good, Bad}
-use Rattle.trie_spec.specs.Find.{findIn, leafOf, foundIn}
+use Rattle.trie_spec.specs.Find.{findIn, leafOf, foundAt}
 use Rattle.trie_spec.proofs.LeafLaws.{NotMet}
 use Rattle.trie_spec.specs.declared.find.Found.{Found}
 use Rattle.trie_spec.specs.Writes.{Outcome, outcome, Did, insertIn, removeUnder}
@@ -191,7 +191,7 @@ refused-overwrite st v (Found.Leaf n) f = absurd (⊎-elim (λ e. omega arith) (
 refused-overwrite st v Found.Absent f = refl
 refused-overwrite st v Found.Wrong f = refl
 
-module _ (st : List ℕ) (h : Header) (k : List ℕ) (w : Found) (p : w ≡ foundIn st h k) where
+module _ (st : List ℕ) (h : Header) (k : List ℕ) (w : Found) (p : w ≡ foundAt st (h .capacity) (h .leaves) (h .root) k) where
   is-got : gotBy st w ≡ gotIn st h k
   is-got = ap (gotBy st) p ∙ got-by st (findIn st h k)
 

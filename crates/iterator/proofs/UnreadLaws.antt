@@ -10,7 +10,7 @@ use lib.ListN.{length, drop}
 use Rattle.model.specs.Key.{Bytes, startsWith}
 use Rattle.model.specs.Nibble.{nibble, critical}
 use Rattle.pictures.specs.After.{passes}
-use Rattle.sparse_array.specs.Entries.{Entry as Item, lookup, below as placeOf}
+use Rattle.bitmap.specs.Entries.{Entry as Item, lookup, below as placeOf}
 use Rattle.node.specs.Child.{numberIn, linkOf}
 use Rattle.node.specs.Leaf.{Leaf as LeafRecord, leafIn}
 use Rattle.node.specs.Branch.{childrenIn, linkedIn}

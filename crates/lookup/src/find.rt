@@ -2,12 +2,12 @@
 use crate::descent::STEPS;
 use crate::descent::descend;
 use crate::keys::nibble;
-use node::branch::get_child;
+use node::branch::follow;
 use node::child::BranchNo;
 use node::child::Child;
-use node::child::LeafNo;
 use node::child::Link;
 use node::child::Linked;
+use node::child::Next;
 use node::child::link_of;
 use node::header::Header;
 use trie_spec::descent::Step;
@@ -20,7 +20,7 @@ ghost use lib.ListN.{length};
 ghost use Rattle.node.specs.Layout.{start};
 ghost use Rattle.node.specs.Child.{numberIn, toBranch};
 ghost use Rattle.trie_spec.specs.Walk.{steps};
-ghost use Rattle.trie_spec.specs.Find.{matched, findFrom, findIn, Stands, foundIn, ends, compared as comparedWith, Below};
+ghost use Rattle.trie_spec.specs.Find.{matched, findFrom, findIn, Stands, foundAt, ends, compared as comparedWith, Below};
 
 // Past every position.
 const NO_STOP: usize = 256;
@@ -80,25 +80,20 @@ fn seek_below(store: &[u8], capacity: u16, key: &[u8], branch: BranchNo, place: 
             break Found::Wrong;
         }
         let slot = nibble(key, position as usize);
-        match get_child(store, BranchNo(number), slot, capacity) {
-            Linked::To(next) => {
-                let child = next.child;
-                match child {
-                    Child::Leaf(n) => {
-                        if left == 1 {
-                            break Found::Wrong;
-                        }
-                        break Found::Leaf(n);
-                    }
-                    Child::Branch(b) => {
-                        number = b.0;
-                        position = next.position;
-                        left -= 1;
-                    }
+        match follow(store, BranchNo(number), slot, capacity) {
+            Next::Leaf(n, _p) => {
+                if left == 1 {
+                    break Found::Wrong;
                 }
+                break Found::Leaf(n);
             }
-            Linked::Absent => break Found::Absent,
-            Linked::Wrong => break Found::Wrong,
+            Next::Branch(b, p) => {
+                number = b.0;
+                position = p;
+                left -= 1;
+            }
+            Next::Absent => break Found::Absent,
+            Next::Wrong => break Found::Wrong,
         }
     }
 }
@@ -131,18 +126,17 @@ fn compared(store: &[u8], capacity: u16, key: &[u8], met: Found) -> Found
     Found::Absent
 }
 
-// The leaf of a key in a store whose header is h, without the way to it: what a lookup needs that changes no link.
-pub fn find_leaf(store: &[u8], h: Header, key: &[u8]) -> Found
-    requires { ⌜ start (h .capacity) ≤ length (now store) ⌝ }
-    ensures is { λ r. ⌜ r ≡ foundIn (now (store .entry)) h (now (key .entry)) ⌝ }
-    ensures below { λ r. ⌜ Below (h .capacity) r ⌝ }
+// The leaf of a key, without the way to it: what a lookup needs that changes no link. Three numbers of the header go in, since numbers stay in registers.
+pub fn find_leaf(store: &[u8], capacity: u16, leaves: u16, root: u32, key: &[u8]) -> Found
+    requires { ⌜ start capacity ≤ length (now store) ⌝ }
+    ensures is { λ r. ⌜ r ≡ foundAt (now (store .entry)) capacity leaves root (now (key .entry)) ⌝ }
+    ensures below { λ r. ⌜ Below capacity r ⌝ }
 {
-    if h.leaves == 0 {
+    if leaves == 0 {
         return Found::Absent;
     }
-    let Linked::To(root) = link_of(h.root, h.capacity) else {
+    let Linked::To(top) = link_of(root, capacity) else {
         return Found::Wrong;
     };
-    let capacity = h.capacity;
-    compared(store, capacity, key, seek(store, capacity, key, root))
+    compared(store, capacity, key, seek(store, capacity, key, top))
 }

@@ -1,5 +1,5 @@
 -- A link and its item: what is written is read back, and the item fits its 3 bytes. Assumes nothing.
-use mathlib.Core.Path.{_≡_, refl, _∙_}
+use mathlib.Core.Path.{_≡_, refl, sym, ap, _∙_}
 use Prim.Native.Nat.{ℕ, _+_, _-_, _*_, _/_, _%_, _≤_, _<_}
 use native.Mathlib.Nat.{add-mul-mod-self-right, add-mul-div-right, mod-eq-of-lt}
 use native.Mathlib.Omega.{arith}
@@ -7,11 +7,15 @@ use mathlib.Core.Bool.{Bool, true, false, cond}
 use lib.Dec.{ltb}
 use borrow.Author.Tests.{lt-ltb, le-ltb, ltb-true}
 use Rattle.model.specs.Numbers.{most}
-use Rattle.node.specs.Child.{toLeaf, toBranch, linkOf, numberIn, codeOf, itemOf}
+use Rattle.node.specs.Child.{toLeaf, toBranch, linkOf, nextTo, nextOf, numberIn, codeOf, itemOf}
 use Rattle.node.specs.declared.child.Child.{Child}
 use Rattle.node.specs.declared.child.Child.the-variants.{Leaf, Branch}
 use Rattle.node.specs.declared.child.Link.{Link}
-use Rattle.node.specs.declared.child.Linked.the-variants.{To, Wrong}
+use Rattle.node.specs.declared.child.Linked.{Linked}
+use Rattle.node.specs.declared.child.Linked.the-variants.{To, Absent, Wrong}
+use Rattle.node.specs.declared.child.Next.{Next}
+use Rattle.node.specs.declared.child.LeafNo.{LeafNo}
+use Rattle.node.specs.declared.child.BranchNo.{BranchNo}
 
 pub item-fits : (l : Link) → numberIn (l .child) < most → l .position < 256 → itemOf l < 16777216
 item-fits l h p = omega (arith, code-fits (l .child) h)
@@ -66,3 +70,36 @@ within cap item l e = go (ltb code cap) refl (ltb code most) (ltb (code - most) 
     go false i true u j e = absurd (let z : _≡_ {A = ℕ} 0 1 = cc in omega arith)
     go false i false true j e = let q : toBranch (code - most) p ≡ l = cc in rw (← q) (ltb-true (code - most) cap j)
     go false i false false j e = absurd (let z : _≡_ {A = ℕ} 0 1 = cc in omega arith)
+
+-- ---- what a link leads to tells the link
+
+abbrev linkFrom : Next → Linked
+linkFrom (Next.Leaf n p) = To (record { child = Leaf n; position = p })
+linkFrom (Next.Branch n p) = To (record { child = Branch n; position = p })
+linkFrom Next.Absent = Absent
+linkFrom Next.Wrong = Wrong
+
+module _ (x : Next) (r : Linked) (e : x ≡ nextOf r) where
+  tells : linkFrom x ≡ r
+  tells = ap linkFrom e ∙ back r
+    where
+      same : (l : Link) (c : Child) → l .child ≡ c → linkFrom (nextTo c (l .position)) ≡ To l
+      same l (Leaf n) i = ap (λ (d : Child). To (record { child = d; position = l .position })) (sym i)
+      same l (Branch n) i = ap (λ (d : Child). To (record { child = d; position = l .position })) (sym i)
+
+      back : (r : Linked) → linkFrom (nextOf r) ≡ r
+      back (To l) = same l (l .child) refl
+      back Absent = refl
+      back Wrong = refl
+
+  pub leads-to-leaf : (n : LeafNo) (p : ℕ) → x ≡ Next.Leaf n p → To (record { child = Leaf n; position = p }) ≡ r
+  leads-to-leaf n p i = ap linkFrom (sym i) ∙ tells
+
+  pub leads-to-branch : (n : BranchNo) (p : ℕ) → x ≡ Next.Branch n p → To (record { child = Branch n; position = p }) ≡ r
+  leads-to-branch n p i = ap linkFrom (sym i) ∙ tells
+
+  pub leads-nowhere : x ≡ Next.Absent → Absent ≡ r
+  leads-nowhere i = ap linkFrom (sym i) ∙ tells
+
+  pub leads-wrong : x ≡ Next.Wrong → Wrong ≡ r
+  leads-wrong i = ap linkFrom (sym i) ∙ tells

@@ -13,7 +13,7 @@ use Rattle.model.specs.Numbers.{most, leastSize, capacityOf}
 use Rattle.fields.specs.Part.{splice}
 use Rattle.fields.specs.Number.{little, littleBytes}
 use Rattle.fields.proofs.PartLaws.{lent, lent-back, length-part, length-splice}
-use Rattle.sparse_array.specs.Entries.{lookup, nth, below, head, erase}
+use Rattle.bitmap.specs.Entries.{lookup, nth, below, head, erase}
 use Rattle.sparse_array.specs.Array.{size, entries, withSlot, withoutSlot, cleared}
 use Rattle.sparse_array.specs.Answers.{got, gotOrHead, orElse, placed, WasSet, WasRemoved}
 use Rattle.sparse_array.specs.declared.Got.{Got}
@@ -23,29 +23,29 @@ use Rattle.sparse_array.specs.declared.Removed.{Removed}
 use Rattle.sparse_array.proofs.ItemLaws.{length-bitmap}
 use Rattle.sparse_array.proofs.ArrayLaws.{below-bound, length-set-bytes, length-remove-bytes}
 use Rattle.node.specs.Layout.{start, arrayAt, sizeAt, valueAt, Room}
-use Rattle.node.specs.Child.{toLeaf, toBranch, decoded, itemOf}
+use Rattle.node.specs.Child.{decoded, nextOf, itemOf}
 use Rattle.node.specs.Leaf.{keySize, leafIn, setLeaf, setValue}
 use Rattle.node.specs.Branch.{arrayIn, childrenIn, linked, linkedGot, linkedIn, headLink, nearIn, setArray, setChild, removeChild, twoSlots, makeBranch}
 use Rattle.node.specs.Header.{magic, markIn, header, headIn, headOf, setHead, setMark}
 use Rattle.node.specs.declared.child.Link.{Link}
 use Rattle.node.specs.declared.child.Linked.{Linked}
-use Rattle.node.specs.declared.child.Linked.the-variants.{To, Wrong}
+use Rattle.node.specs.declared.child.Next.{Next}
 use Rattle.node.specs.declared.header.Header.{Header}
 use Rattle.node.specs.declared.header.Head.the-variants.{Good, Bad}
 
 -- ---- links
 
 module _ (cap code p : ℕ) where
-  pub is-leaf : code < cap → To (toLeaf code p) ≡ decoded cap code p
+  pub is-leaf : code < cap → Next.Leaf (record { 0 = code }) p ≡ nextOf (decoded cap code p)
   is-leaf h = rw (lt-ltb code cap h)
 
-  pub is-between : cap ≤ code → code < most → Wrong ≡ decoded cap code p
+  pub is-between : cap ≤ code → code < most → Next.Wrong ≡ nextOf (decoded cap code p)
   is-between h k = rw (le-ltb code cap h, lt-ltb code most k)
 
-  pub is-branch : cap ≤ code → most ≤ code → code - most < cap → To (toBranch (code - most) p) ≡ decoded cap code p
+  pub is-branch : cap ≤ code → most ≤ code → code - most < cap → Next.Branch (record { 0 = code - most }) p ≡ nextOf (decoded cap code p)
   is-branch h k l = rw (le-ltb code cap h, le-ltb code most k, lt-ltb (code - most) cap l)
 
-  pub is-past : cap ≤ code → most ≤ code → cap ≤ code - most → Wrong ≡ decoded cap code p
+  pub is-past : cap ≤ code → most ≤ code → cap ≤ code - most → Next.Wrong ≡ nextOf (decoded cap code p)
   is-past h k l = rw (le-ltb code cap h, le-ltb code most k, le-ltb (code - most) cap l)
 
 -- ---- the header
@@ -193,11 +193,19 @@ module _ (a : List ℕ) (cap slot : ℕ) (g : Got) (l : Linked) where
   pub got-place : (st : List ℕ) (n i : ℕ) → a ≡ arrayIn st n → g ≡ got (nth i (entries a)) → l ≡ linkedGot cap g → l ≡ linked cap (nth i (childrenIn st n))
   got-place st n i p q r = r ∙ rw (q, p) (linked-got cap (nth i (entries (arrayIn st n))))
 
-  pub got-near : (st : List ℕ) (n : ℕ) → slot ≤ 16 → a ≡ arrayIn st n → g ≡ gotOrHead slot (entries a) → l ≡ linkedGot cap g → l ≡ nearIn cap slot (childrenIn st n)
+  got-near : (st : List ℕ) (n : ℕ) → slot ≤ 16 → a ≡ arrayIn st n → g ≡ gotOrHead slot (entries a) → l ≡ linkedGot cap g → l ≡ nearIn cap slot (childrenIn st n)
   got-near st n h p q r = r ∙ rw (q, p, le-leb slot 16 h) (linked-got cap (orElse (lookup slot (entries (arrayIn st n))) (head (entries (arrayIn st n)))))
 
   pub got-head : (st : List ℕ) (n : ℕ) → a ≡ arrayIn st n → g ≡ got (head (entries a)) → l ≡ linkedGot cap g → l ≡ headLink cap (childrenIn st n)
   got-head st n p q r = r ∙ rw (q, p) (linked-got cap (head (entries (arrayIn st n))))
+
+-- what a slot leads to, by the array's answer
+module _ (a : List ℕ) (cap slot : ℕ) (g : Got) (x : Next) (st : List ℕ) (n : ℕ) (p : a ≡ arrayIn st n) (r : x ≡ nextOf (linkedGot cap g)) where
+  pub slot-next : g ≡ got (lookup slot (entries a)) → x ≡ nextOf (linkedIn cap slot (childrenIn st n))
+  slot-next q = r ∙ ap nextOf (got-linked a cap slot g (linkedGot cap g) st n p q refl)
+
+  pub near-next : slot ≤ 16 → g ≡ gotOrHead slot (entries a) → x ≡ nextOf (nearIn cap slot (childrenIn st n))
+  near-next h q = r ∙ ap nextOf (got-near a cap slot g (linkedGot cap g) st n h p q refl)
 
 -- the place of a slot of a record
 module _ (a : List ℕ) (slot : ℕ) (r : Place) (st : List ℕ) (n : ℕ) (p : a ≡ arrayIn st n) (q : r ≡ placed slot (entries a)) (h : slot ≤ 16) where

@@ -13,8 +13,8 @@ use Rattle.fields.specs.Part.{splice}
 use Rattle.fields.specs.Number.{little, littleBytes}
 use Rattle.fields.proofs.PartLaws.{length-splice, getD-splice-below, getD-splice-above, getD-splice-in, part-splice-same, part-splice-apart, length-part}
 use Rattle.fields.proofs.NumberLaws.{length-little, little-same, little-apart}
-use Rattle.sparse_array.specs.Entries.{insert, erase}
-use Rattle.sparse_array.specs.Bits.{bitsOf}
+use Rattle.bitmap.specs.Entries.{insert, erase}
+use Rattle.bitmap.specs.Bits.{bitsOf}
 use Rattle.sparse_array.specs.Array.{size, bitmapOf, entries, withSlot, withoutSlot, cleared}
 use Rattle.sparse_array.proofs.ItemLaws.{length-bitmap, bitmap-new}
 use Rattle.sparse_array.proofs.ArrayLaws.{set-means, remove-means, clear-means, empty, length-set-bytes, length-remove-bytes}

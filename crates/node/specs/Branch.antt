@@ -5,7 +5,7 @@ use mathlib.Core.List.{List}
 use mathlib.Core.Option.{Option, none, some}
 use Rattle.fields.specs.Part.{part, splice}
 use Rattle.fields.specs.Number.{little, littleBytes}
-use Rattle.sparse_array.specs.Entries.{Entry, lookup, head}
+use Rattle.bitmap.specs.Entries.{Entry, lookup, head}
 use Rattle.sparse_array.specs.Array.{size, entries, withSlot, withoutSlot, cleared}
 use Rattle.sparse_array.specs.Answers.{orElse}
 use Rattle.sparse_array.specs.declared.Got.{Got}

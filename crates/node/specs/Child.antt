@@ -9,7 +9,8 @@ use Rattle.node.specs.declared.child.Child.{Child}
 use Rattle.node.specs.declared.child.Child.the-variants.{Leaf, Branch}
 use Rattle.node.specs.declared.child.Link.{Link}
 use Rattle.node.specs.declared.child.Linked.{Linked}
-use Rattle.node.specs.declared.child.Linked.the-variants.{To, Wrong}
+use Rattle.node.specs.declared.child.Linked.the-variants.{To, Absent, Wrong}
+use Rattle.node.specs.declared.child.Next.{Next}
 
 abbrev pub toLeaf : ℕ → ℕ → Link
 toLeaf n p = record { child = Leaf (record { 0 = n }); position = p }
@@ -28,6 +29,16 @@ decoded capacity code position =
 -- the link of an item: the code in its two low bytes, the position in the third
 abbrev pub linkOf : (capacity item : ℕ) → Linked
 linkOf capacity item = decoded capacity (item % 65536) (item / 65536 % 256)
+
+-- a link taken apart
+abbrev pub nextTo : Child → ℕ → Next
+nextTo (Leaf n) p = Next.Leaf n p
+nextTo (Branch n) p = Next.Branch n p
+
+abbrev pub nextOf : Linked → Next
+nextOf (To l) = nextTo (l .child) (l .position)
+nextOf Absent = Next.Absent
+nextOf Wrong = Next.Wrong
 
 abbrev pub numberIn : Child → ℕ
 numberIn (Leaf n) = n .0

@@ -2,8 +2,10 @@
 use crate::child::BranchNo;
 use crate::child::Link;
 use crate::child::Linked;
+use crate::child::Next;
 use crate::child::item_of;
 use crate::child::link_of;
+use crate::child::next_of;
 use crate::layout::ARRAY;
 use crate::layout::array_at;
 use sparse_array::Got;
@@ -12,10 +14,10 @@ ghost use mathlib.Core.Path.{_≡_};
 ghost use Prim.Native.Nat.{_≤_, _<_};
 ghost use lib.ListN.{length};
 ghost use Rattle.model.specs.Numbers.{most};
-ghost use Rattle.sparse_array.specs.Entries.{nth, below, erase};
+ghost use Rattle.bitmap.specs.Entries.{nth, below, erase};
 ghost use Rattle.sparse_array.specs.Array.{size as arraySize};
 ghost use Rattle.node.specs.Layout.{Room};
-ghost use Rattle.node.specs.Child.{numberIn};
+ghost use Rattle.node.specs.Child.{numberIn, nextOf};
 ghost use Rattle.node.specs.Branch.{arrayIn, childrenIn, linked as linkedOf, linkedGot, linkedIn, nearIn, headLink, setChild, removeChild, twoSlots, makeBranch};
 
 // The record's array, as a part of the store.
@@ -65,12 +67,30 @@ pub fn child_place(store: &[u8], branch: BranchNo, slot: u8) -> usize
     }
 }
 
-// The link of a slot, or of the lowest present slot where that one is missing.
-pub fn get_child_or_head(store: &[u8], branch: BranchNo, slot: u8, capacity: u16) -> Linked
-    requires { ⌜ (Room (now store) (branch .0)) × (slot ≤ 16) ⌝ }
-    ensures { λ r. ⌜ r ≡ nearIn capacity slot (childrenIn (now (store .entry)) (branch .0)) ⌝ }
+// What an item leads to, if there is one.
+fn next_got(got: Got, capacity: u16) -> Next
+    ensures { λ r. ⌜ r ≡ nextOf (linkedGot capacity got) ⌝ }
 {
-    linked(
+    match got {
+        Got::Item(item) => next_of(item, capacity),
+        Got::Absent => Next::Absent,
+    }
+}
+
+// What a slot leads to.
+pub fn follow(store: &[u8], branch: BranchNo, slot: u8, capacity: u16) -> Next
+    requires { ⌜ Room (now store) (branch .0) ⌝ }
+    ensures { λ r. ⌜ r ≡ nextOf (linkedIn capacity slot (childrenIn (now (store .entry)) (branch .0))) ⌝ }
+{
+    next_got(sparse_array::get(array(store, branch), slot), capacity)
+}
+
+// What a slot leads to, or the lowest present slot where that one is missing.
+pub fn follow_or_head(store: &[u8], branch: BranchNo, slot: u8, capacity: u16) -> Next
+    requires { ⌜ (Room (now store) (branch .0)) × (slot ≤ 16) ⌝ }
+    ensures { λ r. ⌜ r ≡ nextOf (nearIn capacity slot (childrenIn (now (store .entry)) (branch .0))) ⌝ }
+{
+    next_got(
         sparse_array::get_or_head(array(store, branch), slot),
         capacity,
     )

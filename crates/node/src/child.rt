@@ -4,7 +4,7 @@ use crate::layout::MOST;
 ghost use mathlib.Core.Path.{_≡_};
 ghost use Prim.Native.Nat.{_<_};
 ghost use Rattle.model.specs.Numbers.{most};
-ghost use Rattle.node.specs.Child.{linkOf, itemOf, codeOf, numberIn};
+ghost use Rattle.node.specs.Child.{linkOf, nextOf, itemOf, codeOf, numberIn};
 
 pub struct LeafNo(pub u16);
 
@@ -29,30 +29,56 @@ pub enum Linked {
     Wrong,
 }
 
-// The link that an item of a branch stands for: its two low bytes are the child's code, below MOST a leaf and from there on a branch, and the third is
-// the position. A number is tested against the capacity before anything uses it.
-pub fn link_of(item: u32, capacity: u16) -> Linked
-    ensures { λ r. ⌜ r ≡ linkOf capacity item ⌝ }
+// A link taken apart, for a loop that goes on from it: one jump tells what it leads to.
+pub enum Next {
+    Leaf(LeafNo, u8),
+    Branch(BranchNo, u8),
+    // nothing is in the slot
+    Absent,
+    // no record of the store has that number
+    Wrong,
+}
+
+// What an item of a branch leads to: its two low bytes are the child's code, below MOST a leaf and from there on a branch, and the third is the
+// position. A number is tested against the capacity before anything uses it.
+pub fn next_of(item: u32, capacity: u16) -> Next
+    ensures { λ r. ⌜ r ≡ nextOf (linkOf capacity item) ⌝ }
 {
     let code = item % 65536;
     let position = (item / 65536 % 256) as u8;
     if code < capacity as u32 {
-        return Linked::To(Link {
-            child: Child::Leaf(LeafNo(code as u16)),
-            position,
-        });
+        return Next::Leaf(LeafNo(code as u16), position);
     }
     if code < MOST as u32 {
-        return Linked::Wrong;
+        return Next::Wrong;
     }
     let number = code - MOST as u32;
     if number < capacity as u32 {
-        return Linked::To(Link {
-            child: Child::Branch(BranchNo(number as u16)),
-            position,
-        });
+        return Next::Branch(BranchNo(number as u16), position);
     }
-    Linked::Wrong
+    Next::Wrong
+}
+
+// The link that an item of a branch stands for.
+pub fn link_of(item: u32, capacity: u16) -> Linked
+    ensures { λ r. ⌜ r ≡ linkOf capacity item ⌝ }
+{
+    match next_of(item, capacity) {
+        Next::Leaf(n, position) => {
+            Linked::To(Link {
+                child: Child::Leaf(n),
+                position,
+            })
+        }
+        Next::Branch(n, position) => {
+            Linked::To(Link {
+                child: Child::Branch(n),
+                position,
+            })
+        }
+        Next::Absent => Linked::Absent,
+        Next::Wrong => Linked::Wrong,
+    }
 }
 
 fn code_of(child: Child) -> u32

@@ -10,15 +10,15 @@ use native.Mathlib.Omega.{arith}
 use lib.Dec.{leb}
 use borrow.Author.Tests.{leb-true}
 use lib.ListN.{getD, set, take, length, length-set, List·getD-eq-default}
-use Rattle.sparse_array.specs.Bits.{bitsOf, count, lowest}
-use Rattle.sparse_array.specs.Entries.{pack, lookup, head, tail, insert, erase, below, Rising}
-use Rattle.sparse_array.specs.Array.{size, bitmapOf, present, itemAt, entries, withItem, withBitmap, opened, closed, turned, placeIn, countIn, isIn, withSlot, withoutSlot, withoutLowest, cleared}
+use Rattle.bitmap.specs.Bits.{bitsOf, count, lowest, present}
+use Rattle.bitmap.specs.Entries.{pack, lookup, head, tail, insert, erase, below, Rising}
+use Rattle.sparse_array.specs.Array.{size, bitmapOf, itemAt, entries, withItem, withBitmap, opened, closed, turned, placeIn, countIn, isIn, withSlot, withoutSlot, withoutLowest, cleared}
 use Rattle.sparse_array.specs.Answers.{here, got, newOr, removedAnswer, gotNumber, putNumber, removedNumber, WasSet, WasRemoved, WasPopped}
 use Rattle.sparse_array.specs.declared.Got.{Got}
 use Rattle.sparse_array.specs.declared.Put.{Put}
 use Rattle.sparse_array.specs.declared.Removed.{Removed}
-use Rattle.sparse_array.proofs.BitLaws.{length-bits, bits-number, number-lt}
-use Rattle.sparse_array.proofs.EntryLaws.{lookup-pack, below-pack, length-pack, head-pack, pack-none, pack-ext, put-in, put-over, take-out, insert-pack, replace-pack, erase-pack, erase-lowest, erase-missing, is-put-in, is-put-over, is-take-out, count-set, count-clear, count-le, count-take, place-le, place-lt, none-set, pack-rising}
+use Rattle.bitmap.proofs.BitLaws.{length-bits, bits-number, number-lt}
+use Rattle.bitmap.proofs.EntryLaws.{lookup-pack, below-pack, length-pack, head-pack, pack-none, pack-ext, put-in, put-over, take-out, insert-pack, replace-pack, erase-pack, erase-lowest, erase-missing, is-put-in, is-put-over, is-take-out, count-set, count-clear, count-le, count-take, place-le, place-lt, none-set, pack-rising}
 use Rattle.sparse_array.proofs.ItemLaws.{length-item, length-bitmap, length-opened, length-closed, item-same, item-other, bitmap-kept, bitmap-new, item-kept, opened-below, opened-above, closed-below, closed-above}
 
 -- ---- reading: `bits` is the bitmap as code holds it

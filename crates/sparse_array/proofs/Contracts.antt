@@ -7,17 +7,17 @@ use Prim.Native.Nat.{ℕ, zero, suc, _≤_, _<_}
 use native.Mathlib.Omega.{arith}
 use lib.ListN.{length, getD, set, take}
 use borrow.Author.Tests.{le-leb, lt-leb}
-use Rattle.sparse_array.specs.Bits.{count, lowest}
-use Rattle.sparse_array.specs.Entries.{Entry, pack, lookup, nth, head, erase}
-use Rattle.sparse_array.specs.Array.{bitmapOf, present, itemAt, entries, withItem, withBitmap, opened, closed, withSlot, withoutSlot, withoutLowest}
+use Rattle.bitmap.specs.Bits.{count, lowest, present}
+use Rattle.bitmap.specs.Entries.{Entry, pack, lookup, nth, head, erase}
+use Rattle.sparse_array.specs.Array.{bitmapOf, itemAt, entries, withItem, withBitmap, opened, closed, withSlot, withoutSlot, withoutLowest}
 use Rattle.sparse_array.specs.Answers.{got, gotOrHead, here, placed, WasSet, WasRemoved, WasPopped}
 use Rattle.sparse_array.specs.declared.Got.{Got}
 use Rattle.sparse_array.specs.declared.Got.the-variants.{Item, Absent}
 use Rattle.sparse_array.specs.declared.Place.the-variants.{At, Absent as PlaceAbsent}
 use Rattle.sparse_array.specs.declared.Put.the-variants.{New, Replaced, Absent as PutAbsent}
 use Rattle.sparse_array.specs.declared.Removed.the-variants.{Done, Absent as RemovedAbsent}
-use Rattle.sparse_array.proofs.BitLaws.{number-is}
-use Rattle.sparse_array.proofs.EntryLaws.{nth-pack, nth-past, place-le, place-lt, lowest-set, lowest-place, none-set, erase-missing, erase-pack, take-out, count-clear, pack-none, head-pack}
+use Rattle.bitmap.proofs.BitLaws.{number-is}
+use Rattle.bitmap.proofs.EntryLaws.{nth-pack, nth-past, place-le, place-lt, lowest-set, lowest-place, none-set, erase-missing, erase-pack, take-out, count-clear, pack-none, head-pack}
 use Rattle.sparse_array.proofs.ArrayLaws.{over, found, missing, presence, placed-at, counted, first, empty, beyond, room}
 
 -- ---- no slot over 16

@@ -1,6 +1,3 @@
-pub mod BitLaws
-pub mod BitmapLaws
-pub mod EntryLaws
 pub mod MapLaws
 pub mod ItemLaws
 pub mod ArrayLaws

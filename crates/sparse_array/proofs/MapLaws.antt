@@ -8,7 +8,7 @@ use native.Mathlib.Omega.{arith}
 use lib.ListN.{length}
 use lib.Dec.{eqb, ltb}
 use borrow.Author.Tests.{eq-eqb, ne-eqb, eqb-true}
-use Rattle.sparse_array.specs.Entries.{Entry, lookup, insert, erase, Rising}
+use Rattle.bitmap.specs.Entries.{Entry, lookup, insert, erase, Rising}
 
 never : (x : ℕ) → _≡_ {A = Option ℕ} (some x) none → ⊥
 never x e = let z : _≡_ {A = ℕ} 0 1 = cc in omega arith

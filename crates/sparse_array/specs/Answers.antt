@@ -8,7 +8,7 @@ use mathlib.Core.Option.{Option, none, some}
 use mathlib.Core.List.{List}
 use lib.Dec.{leb}
 use Rattle.model.specs.Answers.{number, DONE, REPLACED, ABSENT}
-use Rattle.sparse_array.specs.Entries.{Entry, lookup, head, below}
+use Rattle.bitmap.specs.Entries.{Entry, lookup, head, below}
 use Rattle.sparse_array.specs.Array.{entries, withSlot, withoutSlot, withoutLowest}
 use Rattle.sparse_array.specs.declared.Got.{Got}
 use Rattle.sparse_array.specs.declared.Got.the-variants.{Item, Absent}

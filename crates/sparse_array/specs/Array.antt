@@ -9,18 +9,14 @@ use lib.Dec.{leb}
 use lib.ListN.{getD, set, take}
 use Rattle.fields.specs.Part.{part, splice}
 use Rattle.fields.specs.Number.{little, littleBytes}
-use Rattle.sparse_array.specs.Bits.{bitsOf, numberOf, count, lowest}
-use Rattle.sparse_array.specs.Entries.{Entry, pack}
+use Rattle.bitmap.specs.Bits.{numberOf, count, lowest, present}
+use Rattle.bitmap.specs.Entries.{Entry, pack}
 
 abbrev pub size : ℕ
 size = 55
 
 abbrev pub bitmapOf : List ℕ → ℕ
 bitmapOf a = little 4 a 0 % 131072
-
--- which slots are present
-abbrev pub present : ℕ → List Bool
-present bitmap = bitsOf 17 bitmap
 
 -- the item at a place
 abbrev pub itemAt : List ℕ → ℕ → ℕ

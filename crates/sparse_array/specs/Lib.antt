@@ -1,4 +1,2 @@
-pub mod Bits
-pub mod Entries
 pub mod Array
 pub mod Answers

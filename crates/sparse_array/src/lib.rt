@@ -1,14 +1,13 @@
 // The port of sparse_array.rs: a sparse array of 17 slots over a lent part of 55 bytes, a bitmap of 4 bytes and then the items, 3 bytes each, packed.
 // The place of a slot is the number of present slots below it. Every function takes any 55 bytes.
-mod bits;
 mod items;
 
-use bits::count;
-use bits::lowest;
-use bits::place;
-use bits::present;
-use bits::with;
-use bits::without;
+use bitmap::bits::count;
+use bitmap::bits::lowest;
+use bitmap::bits::place;
+use bitmap::bits::present;
+use bitmap::bits::with;
+use bitmap::bits::without;
 use items::bitmap;
 use items::close;
 use items::item;
@@ -18,7 +17,7 @@ use items::put_item;
 ghost use mathlib.Core.Path.{_≡_};
 ghost use lib.Dec.{eqb};
 ghost use lib.ListN.{length};
-ghost use Rattle.sparse_array.specs.Entries.{lookup, nth, erase, head as headOf};
+ghost use Rattle.bitmap.specs.Entries.{lookup, nth, erase, head as headOf};
 ghost use Rattle.sparse_array.specs.Array.{size, entries, cleared};
 ghost use Rattle.sparse_array.specs.Answers.{got, gotOrHead, here, placed, WasSet, WasRemoved, WasPopped};
 

@@ -9,7 +9,7 @@ ghost use Rattle.promises.specs.Meaning.{Means};
 ghost use Rattle.promises.specs.Says.{empty};
 ghost use Rattle.index_spec.specs.Layout.{layout};
 ghost use Rattle.line.specs.Code.{heldIn};
-ghost use Rattle.command.specs.Listing.{outputRoom};
+ghost use Rattle.listings.specs.Listing.{outputRoom};
 ghost use Rattle.stream.specs.Fed.{Fed};
 
 const STORE_SIZE: usize = 65536;

@@ -1,7 +1,7 @@
-// Insertion: the closest leaf, the critical position, and a second descent to where the new leaf goes.
+// Insertion: the closest leaf, the critical position, and, where its end is not known by then, a second descent to where the new leaf goes.
 use crate::relink::relink;
 use lookup::descent::descend;
-use lookup::descent::find_closest_leaf;
+use lookup::descent::find_near;
 use lookup::keys::critical;
 use lookup::keys::nibble;
 use node::branch::make_branch;
@@ -18,7 +18,7 @@ use records::chain::TakenBranch;
 use records::chain::TakenLeaf;
 use records::chain::take_branch;
 use records::chain::take_leaf;
-use trie_spec::descent::Closest;
+use trie_spec::descent::Near;
 use trie_spec::descent::Spot;
 use trie_spec::descent::Step;
 use trie_spec::descent::Walked;
@@ -32,7 +32,7 @@ ghost use Rattle.node.specs.Layout.{start, Room};
 ghost use mathlib.Core.Logic.{_≢_};
 ghost use Rattle.node.specs.Child.{numberIn};
 ghost use Rattle.node.specs.Leaf.{leafIn};
-ghost use Rattle.trie_spec.specs.Walk.{Within, Lies};
+ghost use Rattle.trie_spec.specs.Walk.{steps, first, walk, EndsAt, Within, Lies};
 ghost use Rattle.trie_spec.specs.Writes.{Did, hung, joined, planted, forked, placed, putBeside, putNear, putUnder, insertIn};
 
 // A new leaf, whose link goes to a spot that has none.
@@ -153,6 +153,26 @@ fn put_new(
     }
 }
 
+// The descent to a stop position, whose end is known where no position of the way down reaches the stop.
+fn descend_past(
+    store: &[u8],
+    capacity: u16,
+    key: &[u8],
+    root: Link,
+    end: Walked,
+    high: u8,
+    stop: usize,
+) -> Walked
+    requires { ⌜ (start capacity ≤ length (now store)) × (numberIn (root .child) < capacity) × (Lies capacity end) × (EndsAt (now store) capacity (now key) root end high) ⌝ }
+    ensures is { λ r. ⌜ r ≡ walk (now (store .entry)) capacity (now (key .entry)) stop steps (first root) ⌝ }
+    ensures lies { λ r. ⌜ Lies capacity r ⌝ }
+{
+    if (high as usize) < stop {
+        return end;
+    }
+    descend(store, capacity, key, root, stop)
+}
+
 // A new key by its closest leaf.
 fn put_beside(
     store: &mut [u8],
@@ -162,13 +182,15 @@ fn put_beside(
     root: Link,
     leaf: LeafNo,
     depth: usize,
+    end: Walked,
+    high: u8,
 ) -> Put
-    requires { ⌜ (start (h .capacity) ≤ length (now store)) × (h .capacity ≤ most) × (length (now key) ≤ keyLimit) × (numberIn (root .child) < h .capacity) × (leaf .0 < h .capacity) × (now key ≢ leafIn (now store) (leaf .0) .key) ⌝ }
+    requires { ⌜ (start (h .capacity) ≤ length (now store)) × (h .capacity ≤ most) × (length (now key) ≤ keyLimit) × (numberIn (root .child) < h .capacity) × (leaf .0 < h .capacity) × (Lies (h .capacity) end) × (EndsAt (now store) (h .capacity) (now key) root end high) × (now key ≢ leafIn (now store) (leaf .0) .key) ⌝ }
     ensures { λ r. ⌜ Did (putBeside (now (store .entry)) h (now (key .entry)) value root (leaf .0) depth) r (now (store .exit)) ⌝ }
 {
     let place = critical(key, node::leaf::key(store, leaf));
     let other = nibble(node::leaf::key(store, leaf), place);
-    let walked = descend(store, h.capacity, key, root, place + 1);
+    let walked = descend_past(store, h.capacity, key, root, end, high, place + 1);
     put_new(store, h, key, value, depth, place as u8, other, walked)
 }
 
@@ -181,25 +203,27 @@ fn put_near(
     root: Link,
     leaf: LeafNo,
     depth: usize,
+    end: Walked,
+    high: u8,
 ) -> Put
-    requires { ⌜ (start (h .capacity) ≤ length (now store)) × (h .capacity ≤ most) × (length (now key) ≤ keyLimit) × (numberIn (root .child) < h .capacity) × (leaf .0 < h .capacity) ⌝ }
+    requires { ⌜ (start (h .capacity) ≤ length (now store)) × (h .capacity ≤ most) × (length (now key) ≤ keyLimit) × (numberIn (root .child) < h .capacity) × (leaf .0 < h .capacity) × (Lies (h .capacity) end) × (EndsAt (now store) (h .capacity) (now key) root end high) ⌝ }
     ensures { λ r. ⌜ Did (putNear (now (store .entry)) h (now (key .entry)) value root (leaf .0) depth) r (now (store .exit)) ⌝ }
 {
     if fields::same(key, node::leaf::key(store, leaf)) {
         set_value(store, leaf, value);
         return Put::Replaced;
     }
-    put_beside(store, h, key, value, root, leaf, depth)
+    put_beside(store, h, key, value, root, leaf, depth, end, high)
 }
 
 fn put_under(store: &mut [u8], h: Header, key: &[u8], value: u32, root: Link) -> Put
     requires { ⌜ (start (h .capacity) ≤ length (now store)) × (h .capacity ≤ most) × (length (now key) ≤ keyLimit) × (numberIn (root .child) < h .capacity) ⌝ }
     ensures { λ r. ⌜ Did (putUnder (now (store .entry)) h (now (key .entry)) value root) r (now (store .exit)) ⌝ }
 {
-    let Closest::Leaf(n, depth) = find_closest_leaf(store, h.capacity, key, root) else {
+    let Near::Leaf(n, depth, end, high) = find_near(store, h.capacity, key, root) else {
         return Put::Wrong;
     };
-    put_near(store, h, key, value, root, n, depth)
+    put_near(store, h, key, value, root, n, depth, end, high)
 }
 
 // A key with its value goes into a store whose header is h.

@@ -19,7 +19,7 @@ use Rattle.model.proofs.NibbleAt.{nibble-slot}
 use Rattle.pictures.specs.Tree.{New, newSlot}
 use Rattle.pictures.specs.Stored.{Child, toLeaf, toBranch, At, Lacks, Site, whole, grows, under, below, site, siteK}
 use Rattle.pictures.proofs.Children.{tree-ind, at-or-lacks, picture-at, site-at}
-use Rattle.sparse_array.specs.Entries.{insert, Rising}
+use Rattle.bitmap.specs.Entries.{insert, Rising}
 use Rattle.sparse_array.specs.Array.{entries, withSlot}
 use Rattle.sparse_array.proofs.ArrayLaws.{rising}
 use Rattle.node.specs.Layout.{start, Room}

@@ -91,14 +91,14 @@ module _ (st : List ℕ) (cap : ℕ) (k : List ℕ) (root : Link) (w : Walked) (
 
 -- ---- the root
 
+pub root-below : (cap root : ℕ) (l : Linked) (m : Link) → l ≡ linkOf cap root → l ≡ To m → numberIn (m .child) < cap
+root-below cap root l m is e = within cap root m (sym is ∙ e)
+
 module _ (st k : List ℕ) (h : Header) where
   pub none-stored : h .leaves ≡ 0 → Absent ≡ findIn st h k
   none-stored e = rw (eq-eqb (h .leaves) 0 e)
 
   module _ (l : Linked) (is : l ≡ linkOf (h .capacity) (h .root)) where
-    pub root-below : (m : Link) → l ≡ To m → numberIn (m .child) < h .capacity
-    root-below m e = within (h .capacity) (h .root) m (sym is ∙ e)
-
     module _ (ne : h .leaves ≡ 0 → ⊥) where
       pub root-found : (m : Link) (r : Exact) → l ≡ To m → r ≡ findFrom st (h .capacity) k m → r ≡ findIn st h k
       root-found m r e q = q ∙ rw (ne-eqb (h .leaves) 0 ne, ← is, e)

@@ -22,7 +22,7 @@ use Rattle.pictures.proofs.Children.{tree-ind, at-or-lacks, holds-at, picture-a
 use Rattle.pictures.proofs.StoredRemove.{cut-at, cut-within, drop, row-drop}
 use Rattle.pictures.proofs.Frame.{tally-at, at-self}
 use Rattle.pictures.proofs.Tally.{leaves-length}
-use Rattle.sparse_array.specs.Entries.{erase, Rising}
+use Rattle.bitmap.specs.Entries.{erase, Rising}
 use Rattle.sparse_array.proofs.ArrayLaws.{rising}
 use Rattle.node.specs.Child.{linkOf, itemOf}
 use Rattle.node.specs.Header.{headIn}

@@ -23,7 +23,7 @@ use Rattle.pictures.specs.Records.{at, leafTimes, branchTimes}
 use Rattle.pictures.specs.Stored.{Child, toLeaf, toBranch, root, Row, row, childAt, Holds, At, here, Lacks}
 use Rattle.pictures.proofs.Children.{tree-ind, at-or-lacks, row-at, row-lacks, holds-at, picture-at, closest-at, closest-lacks, get-at}
 use Rattle.pictures.proofs.Frame.{tally-at, at-self}
-use Rattle.sparse_array.specs.Entries.{lookup}
+use Rattle.bitmap.specs.Entries.{lookup}
 use Rattle.node.specs.Child.{numberIn, linkOf, itemOf}
 use Rattle.node.specs.Leaf.{Is, leafIn}
 use Rattle.node.specs.Branch.{childrenIn, linkedIn, nearIn}

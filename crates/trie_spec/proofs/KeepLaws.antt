@@ -13,7 +13,7 @@ use Rattle.model.specs.Nibble.{nibble, critical}
 use Rattle.model.specs.Answers.{number}
 use Rattle.model.proofs.KeyLaws.{Ordered, before, equal, after, ordered}
 use Rattle.model.proofs.NibbleAt.{nibble-slot}
-use Rattle.sparse_array.specs.Entries.{lookup, head, erase}
+use Rattle.bitmap.specs.Entries.{lookup, head, erase}
 use Rattle.sparse_array.specs.Answers.{orElse}
 use Rattle.node.specs.Layout.{start, Room}
 use Rattle.node.specs.Child.{numberIn, linkOf, toLeaf, toBranch}

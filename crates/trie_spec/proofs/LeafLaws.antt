@@ -17,23 +17,24 @@ use Rattle.model.specs.Nibble.{nibble}
 use Rattle.model.specs.Numbers.{most}
 use Rattle.model.proofs.KeyLaws.{Ordered, before, equal, after, ordered, key-same, key-other}
 use Rattle.fields.specs.Common.{Says}
-use Rattle.sparse_array.specs.Entries.{lookup}
+use Rattle.bitmap.specs.Entries.{lookup}
 use Rattle.node.specs.Layout.{start, Room}
-use Rattle.node.specs.Child.{linkOf, toLeaf, toBranch}
+use Rattle.node.specs.Child.{linkOf, nextOf, toLeaf, toBranch}
 use Rattle.node.specs.Leaf.{leafIn}
 use Rattle.node.specs.Branch.{childrenIn, linked, linkedIn}
 use Rattle.node.proofs.HeaderLaws.{block-in}
+use Rattle.node.proofs.ChildLaws.{leads-to-leaf, leads-to-branch, leads-nowhere, leads-wrong}
 use Rattle.node.specs.declared.child.LeafNo.{LeafNo}
 use Rattle.node.specs.declared.child.BranchNo.{BranchNo}
 use Rattle.node.specs.declared.child.Child.{Child}
 use Rattle.node.specs.declared.child.Child.the-variants.{Leaf as LeafChild, Branch}
 use Rattle.node.specs.declared.child.Link.{Link}
 use Rattle.node.specs.declared.child.Linked.{Linked}
+use Rattle.node.specs.declared.child.Next.{Next}
 use Rattle.node.specs.declared.child.Linked.the-variants.{To, Absent, Wrong as WrongLink}
-use Rattle.node.specs.declared.header.Header.{Header}
-use Rattle.trie_spec.proofs.WalkLaws.{NoLink, no-link, same-link, walk-leaf, walk-step}
+use Rattle.trie_spec.proofs.WalkLaws.{NoLink, no-link, same-link, walk-leaf, walk-step, one-left, none-left}
 use Rattle.trie_spec.specs.Walk.{steps, step, onLinked, onNode, walk, first}
-use Rattle.trie_spec.specs.Find.{noStop, onWalked, findFrom, leafOf, foundIn, ends, compared, Below}
+use Rattle.trie_spec.specs.Find.{noStop, onWalked, findFrom, leafOf, foundAt, ends, compared, Below}
 use Rattle.trie_spec.specs.declared.descent.Spot.{Spot}
 use Rattle.trie_spec.specs.declared.descent.Spot.the-variants.{Root, Under}
 use Rattle.trie_spec.specs.declared.descent.Step.{Step}
@@ -69,35 +70,42 @@ module _ (st : List ℕ) (cap : ℕ) (k : List ℕ) where
   pub root-branch : (f : ℕ) (l : Link) (b : BranchNo) (r : Found) → l .child ≡ Branch b → r ≡ ends st cap k f (toBranch (b .0) (l .position)) → r ≡ ends st cap k f l
   root-branch f l b r e q = q ∙ ap (ends st cap k f) (sym (same-link l b e))
 
-  module _ (number p : ℕ) (a : Found) (slot : ℕ) (is : slot ≡ nibble k p) (r : Linked) (q : r ≡ linkedIn cap slot (childrenIn st number)) where
-    stepped : (f : ℕ) → ends st cap k (suc f) (toBranch number p) ≡ a → onLinked (λ m. ends st cap k f m) Found.Absent Found.Wrong r ≡ a
-    stepped f inv = sym (ends-step f (toBranch number p) (record { 0 = number }) refl r (rw (← is) q)) ∙ inv
+  module _ (number p : ℕ) (a : Found) (slot : ℕ) (is : slot ≡ nibble k p) (x : Next) (q : x ≡ nextOf (linkedIn cap slot (childrenIn st number))) where
+    abbrev down : Linked
+    down = linkedIn cap slot (childrenIn st number)
 
-    pub ends-missing : (f : ℕ) → ends st cap k f (toBranch number p) ≡ a → (f ≡ 0 → ⊥) → r ≡ Absent → Found.Absent ≡ a
+    stepped : (f : ℕ) → ends st cap k (suc f) (toBranch number p) ≡ a → onLinked (λ m. ends st cap k f m) Found.Absent Found.Wrong down ≡ a
+    stepped f inv = sym (ends-step f (toBranch number p) (record { 0 = number }) refl down (rw is)) ∙ inv
+
+    pub ends-missing : (f : ℕ) → ends st cap k f (toBranch number p) ≡ a → (f ≡ 0 → ⊥) → x ≡ Next.Absent → Found.Absent ≡ a
     ends-missing zero inv ne g = absurd (ne refl)
-    ends-missing (suc f) inv ne g = rw g at (stepped f inv)
+    ends-missing (suc f) inv ne g = ap (onLinked (λ m. ends st cap k f m) Found.Absent Found.Wrong) (leads-nowhere x down q g) ∙ stepped f inv
 
-    pub ends-wrong : (f : ℕ) → ends st cap k f (toBranch number p) ≡ a → (f ≡ 0 → ⊥) → r ≡ WrongLink → Found.Wrong ≡ a
+    pub ends-wrong : (f : ℕ) → ends st cap k f (toBranch number p) ≡ a → (f ≡ 0 → ⊥) → x ≡ Next.Wrong → Found.Wrong ≡ a
     ends-wrong zero inv ne g = absurd (ne refl)
-    ends-wrong (suc f) inv ne g = rw g at (stepped f inv)
+    ends-wrong (suc f) inv ne g = ap (onLinked (λ m. ends st cap k f m) Found.Absent Found.Wrong) (leads-wrong x down q g) ∙ stepped f inv
 
-    ends-next : (f : ℕ) (l : Link) → ends st cap k f (toBranch number p) ≡ a → (f ≡ 0 → ⊥) → r ≡ To l → ends st cap k (f - 1) l ≡ a
+    ends-next : (f : ℕ) (l : Link) → ends st cap k f (toBranch number p) ≡ a → (f ≡ 0 → ⊥) → To l ≡ down → ends st cap k (f - 1) l ≡ a
     ends-next zero l inv ne g = absurd (ne refl)
-    ends-next (suc f) l inv ne g = rw sub-one (rw g at (stepped f inv))
+    ends-next (suc f) l inv ne g = rw sub-one (ap (onLinked (λ m. ends st cap k f m) Found.Absent Found.Wrong) g ∙ stepped f inv)
 
-    module _ (f : ℕ) (inv : ends st cap k f (toBranch number p) ≡ a) (ne : f ≡ 0 → ⊥) (l : Link) (t : r ≡ To l) (g : ℕ) (gone : g ≡ f - 1) where
-      ends-to : ends st cap k g l ≡ a
-      ends-to = rw gone (ends-next f l inv ne t)
+    module _ (f : ℕ) (inv : ends st cap k f (toBranch number p) ≡ a) (ne : f ≡ 0 → ⊥) (g : ℕ) (gone : g ≡ f - 1) where
+      ends-to : (l : Link) → To l ≡ down → ends st cap k g l ≡ a
+      ends-to l t = rw gone (ends-next f l inv ne t)
 
-      pub ends-end : g ≡ 0 → Found.Wrong ≡ a
+      pub ends-on : (b : BranchNo) (u number′ p′ : ℕ) → x ≡ Next.Branch b u → number′ ≡ b .0 → p′ ≡ u → ends st cap k g (toBranch number′ p′) ≡ a
+      ends-on b u number′ p′ t v w = rw (v, w) (ends-to (toBranch (b .0) u) (leads-to-branch x down q b u t))
+
+    module _ (f : ℕ) (inv : ends st cap k f (toBranch number p) ≡ a) (ne : f ≡ 0 → ⊥) (n : LeafNo) (u : ℕ) (t : x ≡ Next.Leaf n u) where
+      to-leaf : ends st cap k (f - 1) (toLeaf (n .0) u) ≡ a
+      to-leaf = ends-to f inv ne (f - 1) refl (toLeaf (n .0) u) (leads-to-leaf x down q n u t)
+
+      pub ends-end : f ≡ 1 → Found.Wrong ≡ a
       unfolding ends
-      ends-end z = rw z at ends-to
+      ends-end z = rw (none-left f z) at to-leaf
 
-      pub ends-met : (g ≡ 0 → ⊥) → (n : LeafNo) → l .child ≡ LeafChild n → Found.Leaf n ≡ a
-      ends-met z n i = root-leaf g l n z i ∙ ends-to
-
-      pub ends-on : (b : BranchNo) (number′ p′ : ℕ) → l .child ≡ Branch b → number′ ≡ b .0 → p′ ≡ l .position → ends st cap k g (toBranch number′ p′) ≡ a
-      ends-on b number′ p′ i u v = rw (u, v) (ap (ends st cap k g) (sym (same-link l b i)) ∙ ends-to)
+      pub ends-met : (f ≡ 1 → ⊥) → Found.Leaf n ≡ a
+      ends-met z = root-leaf (f - 1) (toLeaf (n .0) u) n (λ w. z (one-left f ne w)) refl ∙ to-leaf
 
 -- ---- the same leaf as with the way
 
@@ -194,17 +202,17 @@ met-room st cap m n fits h e = block-in st cap (n .0) fits (subst (Below cap) e 
 
 -- ---- the root
 
-module _ (st k : List ℕ) (h : Header) where
-  pub no-leaf-stored : h .leaves ≡ 0 → Found.Absent ≡ foundIn st h k
-  no-leaf-stored e = rw (eq-eqb (h .leaves) 0 e)
+module _ (st : List ℕ) (cap leaves root : ℕ) (k : List ℕ) where
+  pub no-leaf-stored : leaves ≡ 0 → Found.Absent ≡ foundAt st cap leaves root k
+  no-leaf-stored e = rw (eq-eqb leaves 0 e)
 
-  module _ (l : Linked) (is : l ≡ linkOf (h .capacity) (h .root)) (ne : h .leaves ≡ 0 → ⊥) where
-    pub leaf-found : (m : Link) (w r : Found) → l ≡ To m → w ≡ ends st (h .capacity) k steps m → r ≡ compared st k w → r ≡ foundIn st h k
+  module _ (l : Linked) (is : l ≡ linkOf cap root) (ne : leaves ≡ 0 → ⊥) where
+    pub leaf-found : (m : Link) (w r : Found) → l ≡ To m → w ≡ ends st cap k steps m → r ≡ compared st k w → r ≡ foundAt st cap leaves root k
     leaf-found m w r e p q =
-        let here : foundIn st h k ≡ leafOf (findFrom st (h .capacity) k m) = rw (ne-eqb (h .leaves) 0 ne, ← is, e) in
-        q ∙ ap (compared st k) (p ∙ sym (walk-ends st (h .capacity) k steps m Root Root (placed (h .capacity) (h .root) m (sym is ∙ e))))
-        ∙ sym (walked-leaf st k (walk st (h .capacity) k noStop steps (first m)))
+        let here : foundAt st cap leaves root k ≡ leafOf (findFrom st cap k m) = rw (ne-eqb leaves 0 ne, ← is, e) in
+        q ∙ ap (compared st k) (p ∙ sym (walk-ends st cap k steps m Root Root (placed cap root m (sym is ∙ e))))
+        ∙ sym (walked-leaf st k (walk st cap k noStop steps (first m)))
         ∙ sym here
 
-    pub leaf-lost : NoLink l → Found.Wrong ≡ foundIn st h k
-    leaf-lost n = rw (ne-eqb (h .leaves) 0 ne, ← is) (ap leafOf (sym (no-link (λ root. findFrom st (h .capacity) k root) NoTree l n)))
+    pub leaf-lost : NoLink l → Found.Wrong ≡ foundAt st cap leaves root k
+    leaf-lost n = rw (ne-eqb leaves 0 ne, ← is) (ap leafOf (sym (no-link (λ m. findFrom st cap k m) NoTree l n)))

@@ -1,6 +1,7 @@
 pub mod WalkLaws
 pub mod FindLaws
 pub mod LeafLaws
+pub mod WayDown
 pub mod WriteLaws
 pub mod UnreadLaws
 pub mod HeldLaws

@@ -13,7 +13,7 @@ use Rattle.model.specs.Key.{onEqual}
 use Rattle.model.specs.Map.{choose}
 use Rattle.model.proofs.Compare.{Said, lower, same, higher, said}
 use Rattle.pictures.specs.Stored.{Child, Row, childAt, setRow, addRow, pairRow, dropRow}
-use Rattle.sparse_array.specs.Entries.{Entry, insert, erase, Rising}
+use Rattle.bitmap.specs.Entries.{Entry, insert, erase, Rising}
 use Rattle.node.specs.Child.{itemOf}
 use Rattle.trie_spec.specs.Accepted.{linkTo, codes}
 

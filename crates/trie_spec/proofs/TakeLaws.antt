@@ -15,7 +15,7 @@ use Rattle.model.specs.Picture.{Tree, closest}
 use Rattle.pictures.specs.Tree.{removeT}
 use Rattle.pictures.specs.Stored.{Child, root, Cut, gone, lifts, shrinks, relinks, cut, Touches}
 use Rattle.pictures.proofs.StoredRemove.{cut-within}
-use Rattle.sparse_array.specs.Entries.{Entry, insert, erase, Rising}
+use Rattle.bitmap.specs.Entries.{Entry, insert, erase, Rising}
 use Rattle.fields.specs.Part.{splice}
 use Rattle.fields.specs.Number.{littleBytes}
 use Rattle.sparse_array.specs.Array.{entries, withSlot, withoutSlot, cleared}

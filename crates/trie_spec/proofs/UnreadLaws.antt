@@ -20,7 +20,7 @@ use Rattle.fields.specs.Number.{little, littleBytes}
 use Rattle.fields.proofs.PartLaws.{part-agree, length-splice, take-splice}
 use Rattle.fields.proofs.NumberLaws.{little-agree}
 use Rattle.sparse_array.specs.Array.{size, entries, cleared, withSlot, withoutSlot}
-use Rattle.sparse_array.specs.Entries.{Entry, lookup, head, erase}
+use Rattle.bitmap.specs.Entries.{Entry, lookup, head, erase}
 use Rattle.sparse_array.specs.Answers.{orElse}
 use Rattle.node.specs.Layout.{start, arrayAt, sizeAt, valueAt}
 use Rattle.node.specs.Child.{numberIn, linkOf, itemOf, toLeaf, toBranch}

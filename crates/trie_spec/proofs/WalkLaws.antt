@@ -10,11 +10,11 @@ use denote.Enum.Declared.{declared, tagOf}
 use borrow.Author.Tests.{le-leb, lt-leb}
 use lib.ListN.{length}
 use Rattle.model.specs.Nibble.{nibble, slotCount}
-use Rattle.node.specs.Child.{numberIn, toBranch}
-use Rattle.sparse_array.specs.Entries.{Entry, lookup}
+use Rattle.node.specs.Child.{numberIn, toLeaf, toBranch, nextOf}
+use Rattle.bitmap.specs.Entries.{Entry, lookup}
 use Rattle.node.specs.Layout.{start, Room}
 use Rattle.node.specs.Branch.{childrenIn, linked, linkedIn, nearIn}
-use Rattle.node.proofs.ChildLaws.{within}
+use Rattle.node.proofs.ChildLaws.{within, leads-to-leaf, leads-to-branch, leads-nowhere, leads-wrong}
 use Rattle.node.proofs.child.Linked.{enum}
 use Rattle.node.proofs.HeaderLaws.{block-in}
 use Rattle.node.specs.declared.child.BranchNo.{BranchNo}
@@ -23,6 +23,7 @@ use Rattle.node.specs.declared.child.Child.{Child}
 use Rattle.node.specs.declared.child.Child.the-variants.{Leaf as LeafChild, Branch}
 use Rattle.node.specs.declared.child.Link.{Link}
 use Rattle.node.specs.declared.child.Linked.{Linked}
+use Rattle.node.specs.declared.child.Next.{Next}
 use Rattle.node.specs.declared.child.Linked.the-variants.{To, Absent, Wrong as WrongLink}
 use Rattle.trie_spec.specs.Walk.{steps, step, first, onLinked, walk, near}
 use Rattle.trie_spec.specs.declared.descent.Spot.{Spot}
@@ -146,55 +147,71 @@ none-left f e = rw e
 
 -- ---- from a branch on, as the loops go: `number` and `p` are the branch and its position, f the steps left, g those left after this one
 
-module _ (st : List ℕ) (cap : ℕ) (k : List ℕ) (d number p : ℕ) (a : Closest) (slot : ℕ) (is : slot ≡ nibble k p) (r : Linked)
-    (q : r ≡ nearIn cap slot (childrenIn st number)) (f : ℕ) (inv : near st cap k f d (toBranch number p) ≡ a) (ne : f ≡ 0 → ⊥) where
-  pub near-missing : r ≡ Absent → NoLeaf ≡ a
-  near-missing = close-missing st cap k d (toBranch number p) a slot is (record { 0 = number }) refl r q f inv ne
+module _ (st : List ℕ) (cap : ℕ) (k : List ℕ) (d number p : ℕ) (a : Closest) (slot : ℕ) (is : slot ≡ nibble k p) (x : Next)
+    (q : x ≡ nextOf (nearIn cap slot (childrenIn st number))) (f : ℕ) (inv : near st cap k f d (toBranch number p) ≡ a) (ne : f ≡ 0 → ⊥) where
+  abbrev met : Linked
+  met = nearIn cap slot (childrenIn st number)
 
-  pub near-wrong : r ≡ WrongLink → NoLeaf ≡ a
-  near-wrong = close-wrong st cap k d (toBranch number p) a slot is (record { 0 = number }) refl r q f inv ne
+  pub near-missing : x ≡ Next.Absent → NoLeaf ≡ a
+  near-missing g = close-missing st cap k d (toBranch number p) a slot is (record { 0 = number }) refl met refl f inv ne (sym (leads-nowhere x met q g))
 
-  module _ (l : Link) (t : r ≡ To l) (g e : ℕ) (gone : g ≡ f - 1) (deeper : e ≡ d + 1) where
-    near-to : near st cap k g e l ≡ a
-    near-to = rw (gone, deeper) (close-next st cap k d (toBranch number p) a slot is (record { 0 = number }) refl r q f l inv ne t)
+  pub near-wrong : x ≡ Next.Wrong → NoLeaf ≡ a
+  near-wrong g = close-wrong st cap k d (toBranch number p) a slot is (record { 0 = number }) refl met refl f inv ne (sym (leads-wrong x met q g))
 
-    pub near-end : g ≡ 0 → NoLeaf ≡ a
-    near-end z = close-end st cap k e l a g near-to z
+  module _ (g e : ℕ) (gone : g ≡ f - 1) (deeper : e ≡ d + 1) where
+    near-to : (l : Link) → To l ≡ met → near st cap k g e l ≡ a
+    near-to l t = rw (gone, deeper) (close-next st cap k d (toBranch number p) a slot is (record { 0 = number }) refl met refl f l inv ne (sym t))
 
-    pub near-met : (g ≡ 0 → ⊥) → (n : LeafNo) → l .child ≡ LeafChild n → Leaf n e ≡ a
-    near-met z n i = close-leaf st cap k e l a g n near-to z i
+    pub near-on : (b : BranchNo) (u number′ p′ : ℕ) → x ≡ Next.Branch b u → number′ ≡ b .0 → p′ ≡ u → near st cap k g e (toBranch number′ p′) ≡ a
+    near-on b u number′ p′ t v w = rw (v, w) (near-to (toBranch (b .0) u) (leads-to-branch x met q b u t))
 
-    pub near-on : (b : BranchNo) (number′ p′ : ℕ) → l .child ≡ Branch b → number′ ≡ b .0 → p′ ≡ l .position → near st cap k g e (toBranch number′ p′) ≡ a
-    near-on b number′ p′ i u v = rw (u, v) (subst (λ (m : Link). near st cap k g e m ≡ a) (same-link l b i) near-to)
+  module _ (n : LeafNo) (u : ℕ) (t : x ≡ Next.Leaf n u) where
+    to-leaf : near st cap k (f - 1) (d + 1) (toLeaf (n .0) u) ≡ a
+    to-leaf = near-to (f - 1) (d + 1) refl refl (toLeaf (n .0) u) (leads-to-leaf x met q n u t)
+
+    pub near-end : f ≡ 1 → NoLeaf ≡ a
+    near-end z = close-end st cap k (d + 1) (toLeaf (n .0) u) a (f - 1) to-leaf (none-left f z)
+
+    pub near-met : (e : ℕ) → (f ≡ 1 → ⊥) → e ≡ d + 1 → Leaf n e ≡ a
+    near-met e z i = rw i (close-leaf st cap k (d + 1) (toLeaf (n .0) u) a (f - 1) n to-leaf (λ w. z (one-left f ne w)) refl)
 
 module _ (st : List ℕ) (cap : ℕ) (k : List ℕ) (stop number p : ℕ) (at above : Spot) (a : Walked) (f : ℕ)
     (inv : walk st cap k stop f (step (toBranch number p) at above) ≡ a) (ne : f ≡ 0 → ⊥) where
   pub walk-stopped : (c : Child) (s : Step) → c ≡ Branch (record { 0 = number }) → s ≡ step (toBranch number p) at above → stop ≤ p → At c s ≡ a
   walk-stopped c s i j h = rw (i, j) (met-stop st cap k stop (step (toBranch number p) at above) a f (record { 0 = number }) (Branch (record { 0 = number })) inv ne refl refl h)
 
-  module _ (h : p < stop) (slot : ℕ) (is : slot ≡ nibble k p) (r : Linked) (q : r ≡ linkedIn cap slot (childrenIn st number)) where
-    pub walk-missing : (b : BranchNo) → b ≡ record { 0 = number } → r ≡ Absent → Missing b slot ≡ a
-    walk-missing b i g = rw i (met-missing st cap k stop (step (toBranch number p) at above) a slot is (record { 0 = number }) refl h r q f inv ne g)
+  module _ (h : p < stop) (slot : ℕ) (is : slot ≡ nibble k p) (x : Next) (q : x ≡ nextOf (linkedIn cap slot (childrenIn st number))) where
+    abbrev down : Linked
+    down = linkedIn cap slot (childrenIn st number)
 
-    pub walk-wrong : r ≡ WrongLink → Wrong ≡ a
-    walk-wrong g = met-wrong st cap k stop (step (toBranch number p) at above) a slot is (record { 0 = number }) refl h r q f inv ne g
+    pub walk-missing : (b : BranchNo) → b ≡ record { 0 = number } → x ≡ Next.Absent → Missing b slot ≡ a
+    walk-missing b i g =
+        rw i (met-missing st cap k stop (step (toBranch number p) at above) a slot is (record { 0 = number }) refl h down refl f inv ne (sym (leads-nowhere x down q g)))
 
-    module _ (l : Link) (t : r ≡ To l) (g : ℕ) (gone : g ≡ f - 1) where
-      walk-to : walk st cap k stop g (step l (Under (record { 0 = number }) slot) at) ≡ a
-      walk-to = rw gone (met-next st cap k stop (step (toBranch number p) at above) a slot is (record { 0 = number }) refl h r q f l inv ne t)
+    pub walk-wrong : x ≡ Next.Wrong → Wrong ≡ a
+    walk-wrong g = met-wrong st cap k stop (step (toBranch number p) at above) a slot is (record { 0 = number }) refl h down refl f inv ne (sym (leads-wrong x down q g))
 
-      pub walk-end : g ≡ 0 → Wrong ≡ a
-      walk-end z = met-end st cap k stop (step l (Under (record { 0 = number }) slot) at) a g walk-to z
+    module _ (g : ℕ) (gone : g ≡ f - 1) where
+      walk-to : (l : Link) → To l ≡ down → walk st cap k stop g (step l (Under (record { 0 = number }) slot) at) ≡ a
+      walk-to l t = rw gone (met-next st cap k stop (step (toBranch number p) at above) a slot is (record { 0 = number }) refl h down refl f l inv ne (sym t))
 
-      pub walk-met : (g ≡ 0 → ⊥) → (n : LeafNo) → l .child ≡ LeafChild n
-          → At (LeafChild n) (record { child = LeafChild n; position = l .position; at = Under (record { 0 = number }) slot; above = at }) ≡ a
-      walk-met z n i =
-          subst (λ (c : Child). At c (record { child = c; position = l .position; at = Under (record { 0 = number }) slot; above = at }) ≡ a) i
-          (met-leaf st cap k stop (step l (Under (record { 0 = number }) slot) at) a g n (l .child) walk-to z i i)
-
-      pub walk-on : (b : BranchNo) (number′ p′ : ℕ) (at′ : Spot) → l .child ≡ Branch b → number′ ≡ b .0 → p′ ≡ l .position → at′ ≡ Under (record { 0 = number }) slot
+      pub walk-on : (b : BranchNo) (u number′ p′ : ℕ) (at′ : Spot) → x ≡ Next.Branch b u → number′ ≡ b .0 → p′ ≡ u → at′ ≡ Under (record { 0 = number }) slot
           → walk st cap k stop g (step (toBranch number′ p′) at′ at) ≡ a
-      walk-on b number′ p′ at′ i u v w = rw (u, v, w) (subst (λ (m : Link). walk st cap k stop g (step m (Under (record { 0 = number }) slot) at) ≡ a) (same-link l b i) walk-to)
+      walk-on b u number′ p′ at′ t v w i = rw (v, w, i) (walk-to (toBranch (b .0) u) (leads-to-branch x down q b u t))
+
+    module _ (n : LeafNo) (u : ℕ) (t : x ≡ Next.Leaf n u) where
+      abbrev last : Step
+      last = step (toLeaf (n .0) u) (Under (record { 0 = number }) slot) at
+
+      to-last : walk st cap k stop (f - 1) last ≡ a
+      to-last = walk-to (f - 1) refl (toLeaf (n .0) u) (leads-to-leaf x down q n u t)
+
+      pub walk-end : f ≡ 1 → Wrong ≡ a
+      walk-end z = met-end st cap k stop last a (f - 1) to-last (none-left f z)
+
+      pub walk-met : (c : Child) (s : Step) → (f ≡ 1 → ⊥) → c ≡ LeafChild n
+          → s ≡ record { child = c; position = u; at = Under (record { 0 = number }) slot; above = at } → At c s ≡ a
+      walk-met c s z i j = rw (j, i) (met-leaf st cap k stop last a (f - 1) n (LeafChild n) to-last (λ w. z (one-left f ne w)) refl refl)
 
 -- ---- from the root on
 
@@ -233,13 +250,13 @@ leaf-below cap c n h e = rw e at h
 pub link-below : (cap slot : ℕ) (es : List Entry) (r : Linked) (l : Link) → r ≡ linkedIn cap slot es → r ≡ To l → numberIn (l .child) < cap
 link-below cap slot es r l p q = linked-below cap (lookup slot es) l (sym p ∙ q)
 
--- the branch or the leaf that a link leads to
-module _ (cap : ℕ) (r : Linked) (l : Link) (q : r ≡ To l) (o : Option ℕ) (is : r ≡ linked cap o) where
-  pub number-below : (b : BranchNo) (m : ℕ) → l .child ≡ Branch b → m ≡ b .0 → m < cap
-  number-below b m e i = rw i (branch-below cap (l .child) b (linked-below cap o l (sym is ∙ q)) e)
+-- the branch or the leaf that a slot leads to
+module _ (cap : ℕ) (x : Next) (o : Option ℕ) (is : x ≡ nextOf (linked cap o)) where
+  pub number-below : (b : BranchNo) (u m : ℕ) → x ≡ Next.Branch b u → m ≡ b .0 → m < cap
+  number-below b u m e i = rw i (linked-below cap o (toBranch (b .0) u) (sym (leads-to-branch x (linked cap o) is b u e)))
 
-  pub number-leaf : (n : LeafNo) → l .child ≡ LeafChild n → n .0 < cap
-  number-leaf n e = leaf-below cap (l .child) n (linked-below cap o l (sym is ∙ q)) e
+  pub number-leaf : (n : LeafNo) (u : ℕ) → x ≡ Next.Leaf n u → n .0 < cap
+  number-leaf n u e = linked-below cap o (toLeaf (n .0) u) (sym (leads-to-leaf x (linked cap o) is n u e))
 
 pub slot-fits : (slot : ℕ) → slot < slotCount → slot ≤ 16
 slot-fits slot h = omega arith

@@ -18,7 +18,7 @@ use Rattle.model.specs.Nibble.{nibble, critical}
 use Rattle.model.proofs.KeyLaws.{key-same, key-other, critical-differs}
 use Rattle.model.proofs.NibbleAt.{nibble-past}
 use Rattle.fields.specs.Common.{Says}
-use Rattle.sparse_array.specs.Entries.{erase, head}
+use Rattle.bitmap.specs.Entries.{erase, head}
 use Rattle.node.specs.Layout.{start, Room}
 use Rattle.node.specs.Child.{toLeaf, toBranch, numberIn, itemOf, linkOf}
 use Rattle.node.specs.Header.{setHead}
@@ -39,15 +39,14 @@ use Rattle.node.specs.declared.child.Linked.the-variants.{To}
 use Rattle.node.specs.declared.header.Header.{Header}
 use Rattle.node.proofs.HeaderLaws.{block-in}
 use Rattle.trie_spec.proofs.WalkLaws.{NoLink, no-link, linked-below}
-use Rattle.trie_spec.specs.Walk.{steps, linkIn, walk, near, first, Within, Lies, Sound}
+use Rattle.trie_spec.specs.Walk.{steps, linkIn, walk, near, first, closestOf, EndsAt, Ended, Within, Lies, Nearby}
 use Rattle.trie_spec.specs.Writes.{withRoot, relinked, Outcome, outcome, hung, joined, planted, forked, placed, putBeside, putNear, putUnder, insertIn, lifted, liftUnder, removeUnder}
 use Rattle.trie_spec.specs.declared.descent.Spot.{Spot}
 use Rattle.trie_spec.specs.declared.descent.Spot.the-variants.{Root, Under}
 use Rattle.trie_spec.specs.declared.descent.Step.{Step}
 use Rattle.trie_spec.specs.declared.descent.Walked.{Walked}
 use Rattle.trie_spec.specs.declared.descent.Walked.the-variants.{At, Missing, Wrong}
-use Rattle.trie_spec.specs.declared.descent.Closest.{Closest}
-use Rattle.trie_spec.specs.declared.descent.Closest.the-variants.{Leaf, Wrong as NoLeaf}
+use Rattle.trie_spec.specs.declared.descent.Near.{Near}
 use Rattle.trie_spec.specs.declared.insert.Put.{Put}
 use Rattle.trie_spec.specs.declared.insert.Put.the-variants.{New, Replaced, Height, Full, Wrong as NoTree}
 
@@ -323,21 +322,32 @@ module _ (st : List ℕ) (h : Header) (k : List ℕ) (v : ℕ) (root : Link) (n 
 
 -- ---- a key under a root
 
-module _ (st : List ℕ) (h : Header) (k : List ℕ) (v : ℕ) (root : Link) (m : Closest) (is : m ≡ near st (h .capacity) k steps 0 root) where
-  pub closest-below : (n : LeafNo) (d : ℕ) → Sound (h .capacity) m → m ≡ Leaf n d → n .0 < h .capacity
-  closest-below n d s e = subst (Sound (h .capacity)) e s .0
+module _ (st : List ℕ) (h : Header) (k : List ℕ) (v : ℕ) (root : Link) (m : Near) (is : closestOf m ≡ near st (h .capacity) k steps 0 root) where
+  module _ (n : LeafNo) (d : ℕ) (w : Walked) (t : ℕ) (e : m ≡ Near.Leaf n d w t) where
+    pub near-below : Nearby (h .capacity) m → n .0 < h .capacity
+    near-below o = subst (Nearby (h .capacity)) e o .0
 
-  pub near-answer : (n : LeafNo) (d : ℕ) (a : Put) → m ≡ Leaf n d → a ≡ putNear st h k v root (n .0) d .answer → a ≡ putUnder st h k v root .answer
-  near-answer n d a e q = q ∙ rw (← is, e)
+    pub end-lies : Nearby (h .capacity) m → Lies (h .capacity) w
+    end-lies o = subst (Nearby (h .capacity)) e o .2
 
-  pub near-bytes : (n : LeafNo) (d : ℕ) (b : List ℕ) → m ≡ Leaf n d → b ≡ putNear st h k v root (n .0) d .bytes → b ≡ putUnder st h k v root .bytes
-  near-bytes n d b e q = q ∙ rw (← is, e)
+    pub end-known : Ended st (h .capacity) k root m → EndsAt st (h .capacity) k root w t
+    end-known o = subst (Ended st (h .capacity) k root) e o
 
-  pub lost-answer : m ≡ NoLeaf → NoTree ≡ putUnder st h k v root .answer
+    pub near-answer : (a : Put) → a ≡ putNear st h k v root (n .0) d .answer → a ≡ putUnder st h k v root .answer
+    near-answer a q = q ∙ rw (← is, e)
+
+    pub near-bytes : (b : List ℕ) → b ≡ putNear st h k v root (n .0) d .bytes → b ≡ putUnder st h k v root .bytes
+    near-bytes b q = q ∙ rw (← is, e)
+
+  pub lost-answer : m ≡ Near.Wrong → NoTree ≡ putUnder st h k v root .answer
   lost-answer e = rw (← is, e)
 
-  pub lost-bytes : m ≡ NoLeaf → st ≡ putUnder st h k v root .bytes
+  pub lost-bytes : m ≡ Near.Wrong → st ≡ putUnder st h k v root .bytes
   lost-bytes e = rw (← is, e)
+
+-- a descent whose end is known
+pub known-end : (st : List ℕ) (cap : ℕ) (k : List ℕ) (root : Link) (w : Walked) (t stop : ℕ) → EndsAt st cap k root w t → t < stop → w ≡ walk st cap k stop steps (first root)
+known-end st cap k root w t stop l h = sym (l stop h)
 
 module _ (st : List ℕ) (h : Header) (k : List ℕ) (v : ℕ) where
   pub first-answer : (a : Put) → h .leaves ≡ 0 → a ≡ hung st h k v Root .answer → a ≡ insertIn st h k v .answer

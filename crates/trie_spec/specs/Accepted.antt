@@ -14,7 +14,7 @@ use Rattle.model.specs.Picture.{Tree, Pictured}
 use Rattle.pictures.specs.Records.{leafTimes, branchTimes}
 use Rattle.pictures.specs.Stored.{Child, toLeaf, toBranch, root, Row, Memory, HoldsLeft}
 use Rattle.pictures.specs.Chain.{Accounted}
-use Rattle.sparse_array.specs.Entries.{Entry}
+use Rattle.bitmap.specs.Entries.{Entry}
 use Rattle.node.specs.Layout.{last}
 use Rattle.node.specs.Child.{itemOf, toLeaf as leafLink, toBranch as branchLink}
 use Rattle.node.specs.Header.{headIn, headOf}

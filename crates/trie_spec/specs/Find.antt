@@ -35,11 +35,12 @@ onWalked st k Wrong = NoTree
 abbrev pub findFrom : List ℕ → ℕ → List ℕ → Link → Exact
 findFrom st cap k root = onWalked st k (walk st cap k noStop steps (first root))
 
--- nothing in an empty store
+-- by three numbers of the header: nothing in an empty store
+abbrev pub findAt : List ℕ → (cap leaves root : ℕ) → List ℕ → Exact
+findAt st cap leaves root k = cond (eqb leaves 0) Absent (onLinked (λ l. findFrom st cap k l) NoTree NoTree (linkOf cap root))
+
 abbrev pub findIn : List ℕ → Header → List ℕ → Exact
-findIn st h k =
-    cond (eqb (h .leaves) 0) Absent
-    (onLinked (λ root. findFrom st (h .capacity) k root) NoTree NoTree (linkOf (h .capacity) (h .root)))
+findIn st h k = findAt st (h .capacity) (h .leaves) (h .root) k
 
 -- what is found lies in the store
 abbrev pub Stands : ℕ → Exact → Type 0
@@ -54,8 +55,8 @@ leafOf (Leaf n s) = Found.Leaf n
 leafOf Absent = Found.Absent
 leafOf NoTree = Found.Wrong
 
-abbrev pub foundIn : List ℕ → Header → List ℕ → Found
-foundIn st h k = leafOf (findIn st h k)
+abbrev pub foundAt : List ℕ → (cap leaves root : ℕ) → List ℕ → Found
+foundAt st cap leaves root k = leafOf (findAt st cap leaves root k)
 
 -- the leaf at the end of the way down from a link, whatever its key is
 unfoldable pub ends : (st : List ℕ) (cap : ℕ) (k : List ℕ) → ℕ → Link → Found

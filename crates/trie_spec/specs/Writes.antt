@@ -9,7 +9,7 @@ use lib.ListN.{length}
 use lib.Dec.{leb, eqb, ltb}
 use Rattle.model.specs.Key.{order, onEqual}
 use Rattle.model.specs.Nibble.{nibble, critical}
-use Rattle.sparse_array.specs.Entries.{erase}
+use Rattle.bitmap.specs.Entries.{erase}
 use Rattle.node.specs.Child.{toLeaf, toBranch, linkOf, itemOf}
 use Rattle.node.specs.Header.{header, setHead}
 use Rattle.node.specs.Leaf.{leafIn, setLeaf, setValue}

@@ -26,6 +26,22 @@ pub enum Walked {
     Wrong,
 }
 
+// The way down by the key's nibbles, as far as it goes.
+pub enum Way {
+    // the leaf at its end, how many branches lie above it, the step to it, and the highest position on the way
+    Leaf(LeafNo, usize, Step, u8),
+    // the branch that lacks the slot, the slot, the branch's position, how many branches lie above it, and the highest position on the way
+    Off(BranchNo, u8, u8, usize, u8),
+    // the records are no tree, or a deeper one than a picture
+    Wrong,
+}
+
+// The closest leaf, how many branches lie above it, where the way down by the key's nibbles ends, and the highest position on that way.
+pub enum Near {
+    Leaf(LeafNo, usize, Walked, u8),
+    Wrong,
+}
+
 // The closest leaf, and how many branches lie above it.
 pub enum Closest {
     Leaf(LeafNo, usize),

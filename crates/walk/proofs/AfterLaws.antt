@@ -8,7 +8,7 @@ use native.Mathlib.Numerals.{sub-one}
 use native.Mathlib.Omega.{arith}
 use borrow.Author.Tests.{le-leb, lt-leb}
 use Rattle.model.specs.Nibble.{nibble}
-use Rattle.sparse_array.specs.Entries.{below as placeOf}
+use Rattle.bitmap.specs.Entries.{below as placeOf}
 use Rattle.node.specs.Branch.{childrenIn, linkedIn}
 use Rattle.node.specs.declared.child.BranchNo.{BranchNo}
 use Rattle.node.specs.declared.child.LeafNo.{LeafNo}

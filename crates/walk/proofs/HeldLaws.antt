@@ -19,7 +19,7 @@ use Rattle.model.proofs.Bounds.{place-bound}
 use Rattle.model.proofs.Compare.{Said, lower, same, higher, said}
 use Rattle.pictures.specs.After.{afterT, afterK}
 use Rattle.pictures.specs.Stored.{toLeaf, toBranch, root, row, Holds, HoldsAll, here}
-use Rattle.sparse_array.specs.Entries.{Entry as Item, lookup, below as placeOf}
+use Rattle.bitmap.specs.Entries.{Entry as Item, lookup, below as placeOf}
 use Rattle.node.specs.Child.{itemOf, linkOf}
 use Rattle.node.specs.Leaf.{leafIn, Is}
 use Rattle.node.specs.Branch.{linkedIn}

@@ -100,3 +100,10 @@ room-wrong out p r h e = rw e (go (isStopped (p .stop)))
     go : (b : Bool) → HasRoom out (cond b p (progress (p .at) (p .left) Wrong))
     go true = h
     go false = h
+
+-- the same output and progress by other names
+pub moved : (out out₁ : List ℕ) (p p₁ : Progress) (s : Sheet) → out ≡ out₁ → p ≡ p₁ → sheet out₁ p₁ ≡ s → sheet out p ≡ s
+moved out out₁ p p₁ s e i q = rw (e, i) q
+
+pub room-moved : (out out₁ : List ℕ) (p p₁ : Progress) → out ≡ out₁ → p ≡ p₁ → HasRoom out₁ p₁ → HasRoom out p
+room-moved out out₁ p p₁ e i h = rw (e, i) h

@@ -8,8 +8,8 @@ use native.Mathlib.Numerals.{sub-one}
 use native.Mathlib.Omega.{arith}
 use lib.ListN.{length, drop}
 use borrow.Author.Tests.{eq-eqb, ne-eqb}
-use Rattle.sparse_array.specs.Entries.{Entry as Item, nth}
-use Rattle.sparse_array.proofs.EntryLaws.{drop-nth}
+use Rattle.bitmap.specs.Entries.{Entry as Item, nth}
+use Rattle.bitmap.proofs.EntryLaws.{drop-nth}
 use Rattle.node.specs.Child.{numberIn, linkOf}
 use Rattle.node.specs.Branch.{childrenIn, linked}
 use Rattle.node.specs.declared.child.BranchNo.{BranchNo}
@@ -19,7 +19,7 @@ use Rattle.node.specs.declared.child.Link.{Link}
 use Rattle.node.specs.declared.child.Linked.{Linked}
 use Rattle.node.specs.declared.child.Linked.the-variants.{To}
 use Rattle.trie_spec.specs.Walk.{onLinked}
-use Rattle.trie_spec.proofs.WalkLaws.{NoLink, no-link, linked-below}
+use Rattle.trie_spec.proofs.WalkLaws.{NoLink, no-link, linked-below, leaf-below}
 use Rattle.walk.specs.Walk.{entryIn, Met, nothingRight, kids, below, Sheet, sheet, isStopped, put, puts, wrongly}
 use Rattle.walk.specs.declared.walk.Progress.{Progress}
 use Rattle.walk.proofs.SheetLaws.{puts-append, puts-stopped, puts-one, puts-wrong, wrong-is}
@@ -150,6 +150,9 @@ module _ (st : List ℕ) (cap : ℕ) (f i : ℕ) (l : Link) (b : BranchNo) (e : 
 
 pub next-below : (cap : ℕ) (o : Option ℕ) (l : Linked) (next : Link) → l ≡ linked cap o → l ≡ To next → numberIn (next .child) < cap
 next-below cap o l next p e = linked-below cap o next (sym p ∙ e)
+
+pub next-leaf-below : (cap : ℕ) (o : Option ℕ) (l : Linked) (next : Link) (n : LeafNo) → l ≡ linked cap o → l ≡ To next → next .child ≡ LeafChild n → n .0 < cap
+next-leaf-below cap o l next n p e i = leaf-below cap (next .child) n (next-below cap o l next p e) i
 
 -- the measure falls
 pub left-falls : (f t : ℕ) → f ≡ t → (f ≡ 0 → ⊥) → f - 1 < t

@@ -11,7 +11,7 @@ use Rattle.model.specs.Map.{Entry}
 use Rattle.model.specs.Entry.{entryBytes}
 use Rattle.model.specs.Nibble.{nibble}
 use Rattle.fields.specs.Part.{splice}
-use Rattle.sparse_array.specs.Entries.{Entry as Item, below as placeOf}
+use Rattle.bitmap.specs.Entries.{Entry as Item, below as placeOf}
 use Rattle.node.specs.Child.{linkOf}
 use Rattle.node.specs.Leaf.{leafIn}
 use Rattle.node.specs.Branch.{childrenIn, linkedIn}

@@ -17,7 +17,7 @@ ghost use mathlib.Core.Option.{some};
 ghost use Prim.Native.Nat.{_≤_, _<_, _+_};
 ghost use lib.ListN.{length};
 ghost use Rattle.node.specs.Layout.{start};
-ghost use Rattle.sparse_array.specs.Entries.{below as placeOf};
+ghost use Rattle.bitmap.specs.Entries.{below as placeOf};
 ghost use Rattle.node.specs.Child.{numberIn};
 ghost use Rattle.node.specs.Branch.{childrenIn};
 ghost use Rattle.walk.specs.Walk.{entryIn, sheet, HasRoom, isStopped, put, puts, wrongly, below, after};
@@ -122,7 +122,15 @@ pub fn emit(
                 let Linked::To(next) = child_at(store, b, i, capacity) else {
                     return wrong(p);
                 };
-                p = emit(store, capacity, next, 0, deep - 1, out, p);
+                let met = next.child;
+                match met {
+                    Child::Leaf(n) => {
+                        p = give(store, capacity, n, out, p);
+                    }
+                    Child::Branch(_b) => {
+                        p = emit(store, capacity, next, 0, deep - 1, out, p);
+                    }
+                }
                 if stopped(p) {
                     return p;
                 }

@@ -1,5 +1,5 @@
 -- `audit::accepts` meets its contract: the header, then the records. Assumes nothing.
-use Rattle.audit.proofs.Contracts.{head-bad, head-room, head-good}
+use Rattle.audit_tree.proofs.Contracts.{head-bad, head-room, head-good}
 use borrow.Author.Needs.{needs}
 use Rattle.audit.proofs.accepts.Statement.{statement}
 use Rattle.audit.proofs.accepts.Tie as tie

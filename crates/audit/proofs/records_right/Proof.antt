@@ -1,5 +1,5 @@
 -- `audit::records_right` meets its contract: the tree, then the leaves' chain, then the branches'. Assumes nothing.
-use Rattle.audit.proofs.Contracts.{records-no-tree, records-no-leaves, records-branches}
+use Rattle.audit_tree.proofs.Contracts.{records-no-tree, records-no-leaves, records-branches}
 use borrow.Author.Needs.{needs}
 use Rattle.audit.proofs.records_right.Statement.{statement}
 use Rattle.audit.proofs.records_right.Tie as tie

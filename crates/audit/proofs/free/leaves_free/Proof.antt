@@ -2,8 +2,8 @@
 use Prim.Native.Nat.{_-_, _≤_}
 use mathlib.Core.Path.{_≡_}
 use Rattle.records.specs.Chain.{leaves}
-use Rattle.audit.specs.Accepts.{chainRight}
-use Rattle.audit.proofs.Contracts.{chain-end, chain-out, chain-used, chain-next, record-in}
+use Rattle.audit_tree.specs.Accepts.{chainRight}
+use Rattle.audit_tree.proofs.Contracts.{chain-end, chain-out, chain-used, chain-next, record-in}
 use borrow.Author.Needs.{needs}
 use Rattle.audit.proofs.free.leaves_free.Statement.{statement}
 use Rattle.audit.proofs.free.leaves_free.Tie as tie

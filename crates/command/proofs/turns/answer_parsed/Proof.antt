@@ -8,7 +8,7 @@ use Rattle.command.proofs.turns.answer_parsed.Lts as lts
 use Rattle.command.proofs.answer.answer_delete.Reads as answer-delete-reads
 use Rattle.command.proofs.answer.answer_get.Reads as answer-get-reads
 use Rattle.command.proofs.answer.answer_insert.Reads as answer-insert-reads
-use Rattle.command.proofs.listing.answer_list.Reads as answer-list-reads
+use Rattle.listings.proofs.listing.answer_list.Reads as answer-list-reads
 use Rattle.line.proofs.writing.put_answer.Reads as put-answer-reads
 
 -- src/turns.rt:30:24

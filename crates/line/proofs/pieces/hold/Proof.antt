@@ -1,4 +1,4 @@
--- `command::pieces::hold` meets its contract. Assumes nothing.
+-- `line::pieces::hold` meets its contract. Assumes nothing.
 use Rattle.line.proofs.PieceLaws.{hold-more, hold-over}
 use borrow.Author.Needs.{needs}
 use Rattle.line.proofs.pieces.hold.Statement.{statement}

@@ -1,4 +1,4 @@
--- `command::pieces::parse_held` meets its contract. Assumes nothing.
+-- `line::pieces::parse_held` meets its contract. Assumes nothing.
 use native.Mathlib.Omega.{arith}
 use lib.ListN.{length-take}
 use Rattle.line.proofs.PieceLaws.{held-line}

@@ -1,5 +1,5 @@
 use borrow.Author.Needs.{needs}
--- `command::pieces::take_line` meets its contract. The invariant: what the rest of the piece gives from here is what all of it gives from the start. Assumes nothing.
+-- `line::pieces::take_line` meets its contract. The invariant: what the rest of the piece gives from here is what all of it gives from the start. Assumes nothing.
 use Prim.Native.Nat.{_-_, _≤_}
 use mathlib.Core.Path.{_≡_}
 use lib.ListN.{length, drop}

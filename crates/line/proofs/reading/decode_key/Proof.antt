@@ -1,4 +1,4 @@
--- `command::reading::decode_key` meets its contract. Assumes nothing.
+-- `line::reading::decode_key` meets its contract. Assumes nothing.
 use Rattle.line.proofs.ReadLaws.{key-none, key-dash, key-one, key-pairs}
 use borrow.Author.Needs.{needs}
 use Rattle.line.proofs.reading.decode_key.Statement.{statement}

@@ -1,5 +1,5 @@
 use borrow.Author.Needs.{needs}
--- `command::reading::decode_pairs` meets its contract. The invariant: the bytes decoded, before those of the pairs that are left, are those of all. Assumes nothing.
+-- `line::reading::decode_pairs` meets its contract. The invariant: the bytes decoded, before those of the pairs that are left, are those of all. Assumes nothing.
 use Prim.Native.Nat.{_-_, _*_, _≤_}
 use mathlib.Core.Path.{_≡_}
 use lib.ListN.{length}

@@ -1,4 +1,4 @@
--- `command::reading::digit_of` meets its contract. Assumes nothing.
+-- `line::reading::digit_of` meets its contract. Assumes nothing.
 use borrow.Author.Needs.{needs}
 use Rattle.line.proofs.ReadLaws.{digit-below, digit-decimal, digit-between, digit-letter, digit-above}
 use Rattle.line.proofs.reading.digit_of.Statement.{statement}

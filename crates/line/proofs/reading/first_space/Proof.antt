@@ -1,5 +1,5 @@
 use borrow.Author.Needs.{needs}
--- `command::reading::first_space` meets its contract. The invariant: what is found from the place on, added to it, is what is found from the start. Assumes nothing.
+-- `line::reading::first_space` meets its contract. The invariant: what is found from the place on, added to it, is what is found from the start. Assumes nothing.
 use Prim.Native.Nat.{_-_, _≤_}
 use lib.ListN.{length}
 use Rattle.line.proofs.ReadLaws.{SpaceFrom, space-here, space-on, space-end}

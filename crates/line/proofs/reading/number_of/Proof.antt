@@ -1,5 +1,5 @@
 use borrow.Author.Needs.{needs}
--- `command::reading::number_of` meets its contract. The invariant: the number of the digits that are left, going on from n, is that of all. Assumes nothing.
+-- `line::reading::number_of` meets its contract. The invariant: the number of the digits that are left, going on from n, is that of all. Assumes nothing.
 use Prim.Native.Nat.{_-_, _≤_, _<_, _^_}
 use lib.ListN.{length}
 use Rattle.line.proofs.ReadLaws.{NumberFrom, number-bad, number-end, number-step, number-grows, number-mul, number-add, number-none, number-long, number-other, number-value, number-over}

@@ -1,4 +1,4 @@
--- `command::reading::parse` meets its contract. Assumes nothing.
+-- `line::reading::parse` meets its contract. Assumes nothing.
 use Rattle.line.proofs.ParseLaws.{line-long, line-short}
 use borrow.Author.Needs.{needs}
 use Rattle.line.proofs.reading.parse.Statement.{statement}

@@ -1,4 +1,4 @@
--- `command::reading::parse_insert` meets its contract. Assumes nothing.
+-- `line::reading::parse_insert` meets its contract. Assumes nothing.
 use native.Mathlib.Omega.{arith}
 use lib.ListN.{length-take}
 use Rattle.line.proofs.ParseLaws.{insert-none, insert-bad-key, insert-bad-number, insert-long, insert-whole}

@@ -1,4 +1,4 @@
--- `command::reading::parse_key` meets its contract. Assumes nothing.
+-- `line::reading::parse_key` meets its contract. Assumes nothing.
 use Rattle.line.proofs.ParseLaws.{keyed-bad, keyed-long, keyed-named}
 use borrow.Author.Needs.{needs}
 use Rattle.line.proofs.reading.parse_key.Statement.{statement}

@@ -1,4 +1,4 @@
--- `command::reading::parse_short` meets its contract. Assumes nothing.
+-- `line::reading::parse_short` meets its contract. Assumes nothing.
 use Rattle.line.proofs.ParseLaws.{short-few, short-joined, short-insert, short-verb, short-other}
 use borrow.Author.Needs.{needs}
 use Rattle.line.proofs.reading.parse_short.Statement.{statement}

@@ -1,4 +1,4 @@
--- `command::reading::parsed_as` meets its contract. Assumes nothing.
+-- `line::reading::parsed_as` meets its contract. Assumes nothing.
 use borrow.Author.Needs.{needs}
 use Rattle.line.proofs.reading.parsed_as.Statement.{statement}
 use Rattle.line.proofs.reading.parsed_as.Tie as tie

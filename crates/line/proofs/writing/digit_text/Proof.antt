@@ -1,4 +1,4 @@
--- `command::writing::digit_text` meets its contract. Assumes nothing.
+-- `line::writing::digit_text` meets its contract. Assumes nothing.
 use Rattle.line.proofs.WriteLaws.{text-decimal, text-letter}
 use borrow.Author.Needs.{needs}
 use Rattle.line.proofs.writing.digit_text.Statement.{statement}

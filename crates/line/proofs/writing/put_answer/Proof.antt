@@ -1,4 +1,4 @@
--- `command::writing::put_answer` meets its contract. Assumes nothing.
+-- `line::writing::put_answer` meets its contract. Assumes nothing.
 use Rattle.line.specs.Answer.{wordOf}
 use Rattle.line.specs.declared.writing.Answer.the-variants.{New, Replaced, Height, Full, Absent, Removed, End, Bad, Key}
 use Rattle.line.proofs.WriteLaws.{answer-room, answer-value, answer-word}

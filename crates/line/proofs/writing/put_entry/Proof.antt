@@ -1,4 +1,4 @@
--- `command::writing::put_entry` meets its contract. Assumes nothing.
+-- `line::writing::put_entry` meets its contract. Assumes nothing.
 use Rattle.line.proofs.WriteLaws.{entry-space, entry-part, entry-lent, entry-place, entry-next, entry-kept, entry-end, entry-whole}
 use borrow.Author.Needs.{needs}
 use Rattle.line.proofs.writing.put_entry.Statement.{statement}

@@ -1,5 +1,5 @@
 use borrow.Author.Needs.{needs}
--- `command::writing::put_key` meets its contract. The invariant: the digits of the first i bytes are written. Assumes nothing.
+-- `line::writing::put_key` meets its contract. The invariant: the digits of the first i bytes are written. Assumes nothing.
 use Prim.Native.Nat.{_-_, _*_, _≤_}
 use mathlib.Core.Path.{_≡_}
 use native.Mathlib.Omega.{arith}

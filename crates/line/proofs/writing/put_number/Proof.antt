@@ -1,4 +1,4 @@
--- `command::writing::put_number` meets its contract. Assumes nothing.
+-- `line::writing::put_number` meets its contract. Assumes nothing.
 use Rattle.line.proofs.WriteLaws.{number-is}
 use borrow.Author.Needs.{needs}
 use Rattle.line.proofs.writing.put_number.Statement.{statement}

@@ -1,5 +1,5 @@
 use borrow.Author.Needs.{needs}
--- `command::writing::put_word` meets its contract. The invariant: the first i bytes are written. Assumes nothing.
+-- `line::writing::put_word` meets its contract. The invariant: the first i bytes are written. Assumes nothing.
 use Prim.Native.Nat.{_-_, _≤_}
 use lib.ListN.{length, take}
 use Rattle.line.specs.Code.{Wrote}

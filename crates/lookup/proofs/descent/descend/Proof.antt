@@ -1,4 +1,4 @@
--- `trie::descent::descend` meets its contract: by the kinds of child that the root is. Assumes nothing.
+-- `lookup::descent::descend` meets its contract: by the kinds of child that the root is. Assumes nothing.
 use Rattle.trie_spec.proofs.WalkLaws.{first-leaf, first-branch, branch-below, leaf-below}
 use borrow.Author.Needs.{needs}
 use Rattle.lookup.proofs.descent.descend.Statement.{statement}

@@ -1,10 +1,10 @@
--- `trie::descent::descend_below` meets its contract: the invariant is that the steps left lead from the present branch to where those from the first one lead. Assumes nothing.
-use mathlib.Core.Path.{_≡_, refl}
+-- `lookup::descent::descend_below` meets its contract: the invariant is that the steps left lead from the present branch to where those from the first one lead. Assumes nothing.
+use mathlib.Core.Path.{_≡_}
 use Prim.Native.Nat.{_≤_, _<_}
 use Rattle.node.specs.Child.{toBranch}
 use Rattle.node.proofs.HeaderLaws.{block-in}
 use Rattle.trie_spec.specs.Walk.{steps, step, walk, Within}
-use Rattle.trie_spec.proofs.WalkLaws.{met-end, walk-stopped, walk-missing, walk-wrong, walk-end, walk-met, walk-on, number-below, number-leaf, slot-fits, one-left, none-left}
+use Rattle.trie_spec.proofs.WalkLaws.{met-end, walk-stopped, walk-missing, walk-wrong, walk-end, walk-met, walk-on, number-below, number-leaf, slot-fits}
 use borrow.Author.Needs.{needs}
 use Rattle.lookup.proofs.descent.descend_below.Statement.{statement}
 use Rattle.lookup.proofs.descent.descend_below.Tie as tie
@@ -24,17 +24,14 @@ cast-p c = search needs
 nibble-requires : tie.Need-nibble-requires Inv-loop μ-loop
 nibble-requires c κs = search needs
 
-get-child-requires : tie.Need-get-child-requires Inv-loop μ-loop
-get-child-requires c κs = search (block-in, needs)
+follow-requires : tie.Need-follow-requires Inv-loop μ-loop
+follow-requires c κs = search (block-in, needs)
 
-enum-known-next : tie.Need-enum-known-next Inv-loop μ-loop
-enum-known-next c = search needs
+enum-known-n : tie.Need-enum-known-n Inv-loop μ-loop
+enum-known-n c = search needs
 
-enum-known-child : tie.Need-enum-known-child Inv-loop μ-loop
-enum-known-child c = search needs
-
-enum-known-child-2 : tie.Need-enum-known-child-2 Inv-loop μ-loop
-enum-known-child-2 c = search needs
+enum-known-b : tie.Need-enum-known-b Inv-loop μ-loop
+enum-known-b c = search needs
 
 sub-left : tie.Need-sub-left Inv-loop μ-loop
 sub-left c = search needs
@@ -58,10 +55,10 @@ returns-2 : tie.Need-returns-2 Inv-loop μ-loop
 returns-2 c = (search (walk-stopped, needs), (search needs, search needs, search needs, search needs))
 
 returns-3 : tie.Need-returns-3 Inv-loop μ-loop
-returns-3 c = (walk-end _ _ _ _ _ _ _ _ _ _ (c .before .before .before .before .before .before .before .before .before .before .before .loop .inv .5) (c .before .before .before .before .before .before .before .before .before .before .if1 .left) (search needs) _ (c .before .before .before .before .before .before .before .before .nibble .ensures .0) _ (c .before .before .before .before .before .before .before .get-child .ensures) _ (c .before .before .before .before .before .next .given .1) _ refl (none-left _ (c .if3 .taken)), tt)
+returns-3 c = (search (walk-end, needs), tt)
 
 returns-4 : tie.Need-returns-4 Inv-loop μ-loop
-returns-4 c = (walk-met _ _ _ _ _ _ _ _ _ _ (c .before .before .before .before .before .before .before .before .before .before .before .loop .inv .5) (c .before .before .before .before .before .before .before .before .before .before .if1 .left) (search needs) _ (c .before .before .before .before .before .before .before .before .nibble .ensures .0) _ (c .before .before .before .before .before .before .before .get-child .ensures) _ (c .before .before .before .before .before .next .given .1) _ refl (λ e. c .if3 .left (one-left _ (c .before .before .before .before .before .before .before .before .before .before .if1 .left) e)) _ (c .before .before .child .given .1), (search (number-leaf, needs), (search needs, search (slot-fits, needs)), search needs, search needs))
+returns-4 c = (search (walk-met, needs), (search (number-leaf, needs), (search needs, search (slot-fits, needs)), search needs, search needs))
 
 returns-5 : tie.Need-returns-5 Inv-loop μ-loop
 returns-5 c = (search (walk-missing, needs), (search needs, search (slot-fits, needs)))
@@ -78,10 +75,9 @@ descend-below-spec =
     loop-holds
     cast-p
     nibble-requires
-    get-child-requires
-    enum-known-next
-    enum-known-child
-    enum-known-child-2
+    follow-requires
+    enum-known-n
+    enum-known-b
     sub-left
     loop-less
     loop-again

@@ -1,4 +1,4 @@
--- `trie::find::compared` meets its contract: by whether a leaf was met, and by its key. Assumes nothing.
+-- `lookup::find::compared` meets its contract: by whether a leaf was met, and by its key. Assumes nothing.
 use Rattle.trie_spec.proofs.LeafLaws.{met-room, met-below, not-met, compared-same, compared-other}
 use borrow.Author.Needs.{needs}
 use Rattle.lookup.proofs.find.compared.Statement.{statement}

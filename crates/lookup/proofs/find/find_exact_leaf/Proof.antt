@@ -1,4 +1,4 @@
--- `trie::find::find_exact_leaf` meets its contract: by the ways out: an empty store, a root link that leads nowhere, and a root. Assumes nothing.
+-- `lookup::find::find_exact_leaf` meets its contract: by the ways out: an empty store, a root link that leads nowhere, and a root. Assumes nothing.
 use Rattle.trie_spec.proofs.FindLaws.{none-stored, root-below, root-found, root-lost}
 use borrow.Author.Needs.{needs}
 use Rattle.lookup.proofs.find.find_exact_leaf.Statement.{statement}

@@ -1,4 +1,4 @@
--- `trie::find::find_from` meets its contract: by the three answers of the descent. Assumes nothing.
+-- `lookup::find::find_from` meets its contract: by the three answers of the descent. Assumes nothing.
 use Rattle.trie_spec.proofs.FindLaws.{lies-at, from-at, from-stands, from-missing, from-wrong}
 use borrow.Author.Needs.{needs}
 use Rattle.lookup.proofs.find.find_from.Statement.{statement}

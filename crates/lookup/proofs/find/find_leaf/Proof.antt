@@ -1,4 +1,4 @@
--- `trie::find::find_leaf` meets its contract: by the ways out: an empty store, a root link that leads nowhere, and a root. Assumes nothing.
+-- `lookup::find::find_leaf` meets its contract: by the ways out: an empty store, a root link that leads nowhere, and a root. Assumes nothing.
 use Rattle.trie_spec.proofs.FindLaws.{root-below}
 use Rattle.trie_spec.proofs.LeafLaws.{no-leaf-stored, leaf-lost, leaf-found}
 use borrow.Author.Needs.{needs}
@@ -11,8 +11,8 @@ returns c = (search (no-leaf-stored, needs), tt)
 link-of-requires : tie.Need-link-of-requires
 link-of-requires c κs = search needs
 
-enum-known-root : tie.Need-enum-known-root
-enum-known-root c = search needs
+enum-known-top : tie.Need-enum-known-top
+enum-known-top c = search needs
 
 returns-2 : tie.Need-returns-2
 returns-2 c = (search (leaf-lost, needs), tt)
@@ -32,7 +32,7 @@ find-leaf-spec =
     (tie.spec
     returns
     link-of-requires
-    enum-known-root
+    enum-known-top
     returns-2
     seek-requires
     compared-requires

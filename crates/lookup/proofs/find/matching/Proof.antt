@@ -1,4 +1,4 @@
--- `trie::find::matching` meets its contract: by the kinds of child, and by the leaf's key. Assumes nothing.
+-- `lookup::find::matching` meets its contract: by the kinds of child, and by the leaf's key. Assumes nothing.
 use Rattle.trie_spec.proofs.FindLaws.{leaf-room, is-leaf, is-other}
 use borrow.Author.Needs.{needs}
 use Rattle.lookup.proofs.find.matching.Statement.{statement}

@@ -1,4 +1,4 @@
--- `trie::find::seek` meets its contract: by the kinds of child that the root is. Assumes nothing.
+-- `lookup::find::seek` meets its contract: by the kinds of child that the root is. Assumes nothing.
 use Rattle.trie_spec.proofs.WalkLaws.{branch-below, leaf-below}
 use Rattle.trie_spec.proofs.LeafLaws.{seek-leaf, root-branch}
 use borrow.Author.Needs.{needs}

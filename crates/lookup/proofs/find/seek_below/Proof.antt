@@ -1,11 +1,11 @@
--- `trie::find::seek_below` meets its contract: the invariant is that the steps left lead from the present branch to where those from the first one lead. Assumes nothing.
-use mathlib.Core.Path.{_≡_, refl}
+-- `lookup::find::seek_below` meets its contract: the invariant is that the steps left lead from the present branch to where those from the first one lead. Assumes nothing.
+use mathlib.Core.Path.{_≡_}
 use Prim.Native.Nat.{_≤_, _<_}
 use Rattle.node.specs.Child.{toBranch}
 use Rattle.node.proofs.HeaderLaws.{block-in}
 use Rattle.trie_spec.specs.Walk.{steps}
 use Rattle.trie_spec.specs.Find.{ends}
-use Rattle.trie_spec.proofs.WalkLaws.{number-below, number-leaf, one-left, none-left}
+use Rattle.trie_spec.proofs.WalkLaws.{number-below, number-leaf}
 use Rattle.trie_spec.proofs.LeafLaws.{ends-over, ends-missing, ends-wrong, ends-end, ends-met, ends-on}
 use borrow.Author.Needs.{needs}
 use Rattle.lookup.proofs.find.seek_below.Statement.{statement}
@@ -26,17 +26,14 @@ cast-nibble c = search needs
 nibble-requires : tie.Need-nibble-requires Inv-loop μ-loop
 nibble-requires c κs = search needs
 
-get-child-requires : tie.Need-get-child-requires Inv-loop μ-loop
-get-child-requires c κs = search (block-in, needs)
+follow-requires : tie.Need-follow-requires Inv-loop μ-loop
+follow-requires c κs = search (block-in, needs)
 
-enum-known-next : tie.Need-enum-known-next Inv-loop μ-loop
-enum-known-next c = search needs
+enum-known-n : tie.Need-enum-known-n Inv-loop μ-loop
+enum-known-n c = search needs
 
-enum-known-child : tie.Need-enum-known-child Inv-loop μ-loop
-enum-known-child c = search needs
-
-enum-known-child-2 : tie.Need-enum-known-child-2 Inv-loop μ-loop
-enum-known-child-2 c = search needs
+enum-known-b : tie.Need-enum-known-b Inv-loop μ-loop
+enum-known-b c = search needs
 
 sub-left : tie.Need-sub-left Inv-loop μ-loop
 sub-left c = search needs
@@ -57,10 +54,10 @@ returns : tie.Need-returns Inv-loop μ-loop
 returns c = (search (ends-over, needs), tt)
 
 returns-2 : tie.Need-returns-2 Inv-loop μ-loop
-returns-2 c = (ends-end _ _ _ _ _ _ _ (c .before .before .before .before .before .before .before .before .nibble .ensures .0) _ (c .before .before .before .before .before .before .before .get-child .ensures) _ (c .before .before .before .before .before .before .before .before .before .before .loop .inv .3) (c .before .before .before .before .before .before .before .before .before .if1 .left) _ (c .before .before .before .before .before .next .given .1) _ refl (none-left _ (c .if2 .taken)), tt)
+returns-2 c = (search (ends-end, needs), tt)
 
 returns-3 : tie.Need-returns-3 Inv-loop μ-loop
-returns-3 c = (ends-met _ _ _ _ _ _ _ (c .before .before .before .before .before .before .before .before .nibble .ensures .0) _ (c .before .before .before .before .before .before .before .get-child .ensures) _ (c .before .before .before .before .before .before .before .before .before .before .loop .inv .3) (c .before .before .before .before .before .before .before .before .before .if1 .left) _ (c .before .before .before .before .before .next .given .1) _ refl (λ e. c .if2 .left (one-left _ (c .before .before .before .before .before .before .before .before .before .if1 .left) e)) _ (c .before .before .child .given .1), search (number-leaf, needs))
+returns-3 c = (search (ends-met, needs), search (number-leaf, needs))
 
 returns-4 : tie.Need-returns-4 Inv-loop μ-loop
 returns-4 c = (search (ends-missing, needs), tt)
@@ -77,10 +74,9 @@ seek-below-spec =
     loop-holds
     cast-nibble
     nibble-requires
-    get-child-requires
-    enum-known-next
-    enum-known-child
-    enum-known-child-2
+    follow-requires
+    enum-known-n
+    enum-known-b
     sub-left
     loop-less
     loop-again

@@ -1,4 +1,4 @@
--- `trie::keys::critical` meets its contract: the first byte that differs, and its half. Assumes nothing.
+-- `lookup::keys::critical` meets its contract: the first byte that differs, and its half. Assumes nothing.
 use Rattle.lookup.proofs.KeyCode.{doubled-fits, first-ended, second-ended, halves-differ, lows-differ}
 use borrow.Author.Needs.{needs}
 use Rattle.lookup.proofs.keys.critical.Statement.{statement}

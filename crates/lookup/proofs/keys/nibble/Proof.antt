@@ -1,4 +1,4 @@
--- `trie::keys::nibble` meets its contract: by the laws of nibbles by bytes. Assumes nothing.
+-- `lookup::keys::nibble` meets its contract: by the laws of nibbles by bytes. Assumes nothing.
 use mathlib.Core.Path.{sym}
 use Prim.Native.Nat.{_/_}
 use borrow.Author.Needs.{needs}

@@ -1,50 +1,46 @@
--- `node::child::link_of` meets its contract: by the four ways out: a leaf, a number between the capacity and `most`, a branch, a number past the capacity. Assumes nothing.
-use Rattle.node.proofs.Contracts.{is-leaf, is-between, is-branch, is-past}
+-- `node::child::link_of` meets its contract: what it leads to tells the link. Assumes nothing.
+use Rattle.node.proofs.ChildLaws.{leads-to-leaf, leads-to-branch, leads-nowhere, leads-wrong}
 use borrow.Author.Needs.{needs}
 use Rattle.node.proofs.child.link_of.Statement.{statement}
 use Rattle.node.proofs.child.link_of.Tie as tie
 
-cast-position : tie.Need-cast-position
-cast-position c = search needs
+next-of-requires : tie.Need-next-of-requires
+next-of-requires c κs = search needs
 
-cast-t9 : tie.Need-cast-t9
-cast-t9 c = search needs
+enum-known-n : tie.Need-enum-known-n
+enum-known-n c = search needs
+
+enum-known-n-2 : tie.Need-enum-known-n-2
+enum-known-n-2 c = search needs
+
+enum-told : tie.Need-enum-told
+enum-told c = search needs
+
+enum-told-2 : tie.Need-enum-told-2
+enum-told-2 c = search needs
 
 returns : tie.Need-returns
-returns c = search (is-leaf, needs)
-
-cast-if2 : tie.Need-cast-if2
-cast-if2 c = search needs
+returns c = search (leads-to-leaf, needs)
 
 returns-2 : tie.Need-returns-2
-returns-2 c = search (is-between, needs)
-
-cast-number : tie.Need-cast-number
-cast-number c = search needs
-
-sub-number : tie.Need-sub-number
-sub-number c = search needs
-
-cast-t13 : tie.Need-cast-t13
-cast-t13 c = search needs
+returns-2 c = search (leads-to-branch, needs)
 
 returns-3 : tie.Need-returns-3
-returns-3 c = search (is-branch, needs)
+returns-3 c = search (leads-nowhere, needs)
 
 returns-4 : tie.Need-returns-4
-returns-4 c = search (is-past, needs)
+returns-4 c = search (leads-wrong, needs)
 
 pub link-of-spec : {M : Type 1} → statement M
 link-of-spec =
     tie.close
     (tie.spec
-    cast-position
-    cast-t9
+    next-of-requires
+    enum-known-n
+    enum-known-n-2
+    enum-told
+    enum-told-2
     returns
-    cast-if2
     returns-2
-    cast-number
-    sub-number
-    cast-t13
     returns-3
     returns-4)

@@ -1,4 +1,4 @@
--- `node::chain::empty_array` meets its contract: a cleared array, and the number in its first item. Assumes nothing.
+-- `records::chain::empty_array` meets its contract: a cleared array, and the number in its first item. Assumes nothing.
 use Rattle.records.proofs.Contracts.{array-emptied}
 use borrow.Author.Needs.{needs}
 use Rattle.records.proofs.chain.empty_array.Statement.{statement}

@@ -1,4 +1,4 @@
--- `node::chain::free_branch` meets its contract: the array that came back in its part. Assumes nothing.
+-- `records::chain::free_branch` meets its contract: the array that came back in its part. Assumes nothing.
 use Rattle.records.proofs.Contracts.{branch-freed}
 use borrow.Author.Needs.{needs}
 use Rattle.records.proofs.chain.free_branch.Statement.{statement}

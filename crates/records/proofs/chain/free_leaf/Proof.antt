@@ -1,4 +1,4 @@
--- `node::chain::free_leaf` meets its contract: two writes. Assumes nothing.
+-- `records::chain::free_leaf` meets its contract: two writes. Assumes nothing.
 use Rattle.records.proofs.Contracts.{leaf-freed}
 use borrow.Author.Needs.{needs}
 use Rattle.records.proofs.chain.free_leaf.Statement.{statement}

@@ -1,4 +1,4 @@
--- `node::chain::give_branch` meets its contract: the record is free, and the header says so. Assumes nothing.
+-- `records::chain::give_branch` meets its contract: the record is free, and the header says so. Assumes nothing.
 use Rattle.records.proofs.Contracts.{branch-given}
 use borrow.Author.Needs.{needs}
 use Rattle.records.proofs.chain.give_branch.Statement.{statement}

@@ -1,4 +1,4 @@
--- `node::chain::give_leaf` meets its contract: the record is free, and the header says so. Assumes nothing.
+-- `records::chain::give_leaf` meets its contract: the record is free, and the header says so. Assumes nothing.
 use Rattle.records.proofs.Contracts.{leaf-given}
 use borrow.Author.Needs.{needs}
 use Rattle.records.proofs.chain.give_leaf.Statement.{statement}

@@ -1,4 +1,4 @@
--- `node::chain::is_free_branch` meets its contract: a free branch has no child. Assumes nothing.
+-- `records::chain::is_free_branch` meets its contract: a free branch has no child. Assumes nothing.
 use Rattle.records.proofs.Contracts.{branch-free}
 use borrow.Author.Needs.{needs}
 use Rattle.records.proofs.chain.is_free_branch.Statement.{statement}

@@ -1,4 +1,4 @@
--- `node::chain::is_free_leaf` meets its contract: the mark of a free leaf is its length byte. Assumes nothing.
+-- `records::chain::is_free_leaf` meets its contract: the mark of a free leaf is its length byte. Assumes nothing.
 use Rattle.records.proofs.Contracts.{leaf-free}
 use borrow.Author.Needs.{needs}
 use Rattle.records.proofs.chain.is_free_leaf.Statement.{statement}

@@ -1,4 +1,4 @@
--- `node::chain::next_branch` meets its contract: one read. Assumes nothing.
+-- `records::chain::next_branch` meets its contract: one read. Assumes nothing.
 use Rattle.records.proofs.Contracts.{branch-next}
 use borrow.Author.Needs.{needs}
 use Rattle.records.proofs.chain.next_branch.Statement.{statement}

@@ -1,4 +1,4 @@
--- `node::chain::next_leaf` meets its contract: one read. Assumes nothing.
+-- `records::chain::next_leaf` meets its contract: one read. Assumes nothing.
 use Rattle.records.proofs.Contracts.{leaf-next}
 use borrow.Author.Needs.{needs}
 use Rattle.records.proofs.chain.next_leaf.Statement.{statement}

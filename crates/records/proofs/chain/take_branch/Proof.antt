@@ -1,4 +1,4 @@
--- `node::chain::take_branch` meets its contract: by the four ways out, in the order of the tests. Assumes nothing.
+-- `records::chain::take_branch` meets its contract: by the four ways out, in the order of the tests. Assumes nothing.
 use Rattle.records.proofs.Contracts.{branch-past, branch-full, branch-first, branch-not}
 use borrow.Author.Needs.{needs}
 use Rattle.records.proofs.chain.take_branch.Statement.{statement}

@@ -1,4 +1,4 @@
--- `node::chain::take_leaf` meets its contract: by the four ways out, in the order of the tests. Assumes nothing.
+-- `records::chain::take_leaf` meets its contract: by the four ways out, in the order of the tests. Assumes nothing.
 use Rattle.records.proofs.Contracts.{leaf-past, leaf-full, leaf-first, leaf-not}
 use borrow.Author.Needs.{needs}
 use Rattle.records.proofs.chain.take_leaf.Statement.{statement}

@@ -1,4 +1,4 @@
--- `node::create::create` meets its contract: by the two ways out: no room, and the three writes. Assumes nothing.
+-- `records::create::create` meets its contract: by the two ways out: no room, and the three writes. Assumes nothing.
 use Rattle.records.proofs.Contracts.{create-refused, create-done}
 use borrow.Author.Needs.{needs}
 use Rattle.records.proofs.create.create.Statement.{statement}

@@ -1,4 +1,4 @@
--- `node::create::free_all` meets its contract: the invariant is that the records below r are free. Assumes nothing.
+-- `records::create::free_all` meets its contract: the invariant is that the records below r are free. Assumes nothing.
 use Rattle.records.specs.Create.{freedBelow}
 use mathlib.Core.Path.{_≡_}
 use lib.ListN.{length}

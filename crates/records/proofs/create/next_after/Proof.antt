@@ -1,4 +1,4 @@
--- `node::create::next_after` meets its contract: the next number, or the end of the chain. Assumes nothing.
+-- `records::create::next_after` meets its contract: the next number, or the end of the chain. Assumes nothing.
 use Rattle.records.proofs.Contracts.{after-next, after-last}
 use borrow.Author.Needs.{needs}
 use Rattle.records.proofs.create.next_after.Statement.{statement}

@@ -16,11 +16,11 @@ key-requires-2 c κs = search needs
 nibble-requires : tie.Need-nibble-requires
 nibble-requires c κs = search needs
 
-add-descend : tie.Need-add-descend
-add-descend c = search (next-fits, needs)
+add-descend-past : tie.Need-add-descend-past
+add-descend-past c = search (next-fits, needs)
 
-descend-requires : tie.Need-descend-requires
-descend-requires c κs = search needs
+descend-past-requires : tie.Need-descend-past-requires
+descend-past-requires c κs = search needs
 
 cast-put-new : tie.Need-cast-put-new
 cast-put-new c = search (place-fits, needs)
@@ -42,8 +42,8 @@ put-beside-spec =
     critical-requires
     key-requires-2
     nibble-requires
-    add-descend
-    descend-requires
+    add-descend-past
+    descend-past-requires
     cast-put-new
     put-new-requires
     same-length

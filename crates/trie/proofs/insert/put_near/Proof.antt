@@ -20,7 +20,8 @@ returns : tie.Need-returns
 returns c = (search (replaced-answer, needs), search (replaced-bytes, needs))
 
 put-beside-requires : tie.Need-put-beside-requires
-put-beside-requires c κs = search (is-new, needs)
+put-beside-requires c κs =
+    (search needs, search needs, search needs, search needs, search needs, search needs, search needs, search (is-new, needs))
 
 same-length-2 : tie.Need-same-length-2
 same-length-2 c = search needs

@@ -1,11 +1,11 @@
 -- `trie::insert::put_under` meets its contract: by the two answers of the descent. Assumes nothing.
-use Rattle.trie_spec.proofs.WriteLaws.{closest-below, near-answer, near-bytes, lost-answer, lost-bytes}
+use Rattle.trie_spec.proofs.WriteLaws.{near-below, end-lies, end-known, near-answer, near-bytes, lost-answer, lost-bytes}
 use borrow.Author.Needs.{needs}
 use Rattle.trie.proofs.insert.put_under.Statement.{statement}
 use Rattle.trie.proofs.insert.put_under.Tie as tie
 
-find-closest-leaf-requires : tie.Need-find-closest-leaf-requires
-find-closest-leaf-requires c κs = search needs
+find-near-requires : tie.Need-find-near-requires
+find-near-requires c κs = search needs
 
 enum-known-n : tie.Need-enum-known-n
 enum-known-n c = search needs
@@ -20,7 +20,8 @@ returns : tie.Need-returns
 returns c = (search (lost-answer, needs), search (lost-bytes, needs))
 
 put-near-requires : tie.Need-put-near-requires
-put-near-requires c κs = search (closest-below, needs)
+put-near-requires c κs =
+    (search needs, search needs, search needs, search needs, search (near-below, needs), search (end-lies, needs), search (end-known, needs))
 
 same-length-2 : tie.Need-same-length-2
 same-length-2 c = search needs
@@ -32,7 +33,7 @@ pub put-under-spec : {M : Type 1} → statement M
 put-under-spec =
     tie.close
     (tie.spec
-    find-closest-leaf-requires
+    find-near-requires
     enum-known-n
     enum-told
     same-length

@@ -1,4 +1,4 @@
--- `iterator::entry::put_head` meets its contract: the tag, and the length after it. Assumes nothing.
+-- `walk::entry::put_head` meets its contract: the tag, and the length after it. Assumes nothing.
 use Rattle.walk.proofs.EntryLaws.{field-written}
 use borrow.Author.Needs.{needs}
 use Rattle.walk.proofs.entry.put_head.Statement.{statement}

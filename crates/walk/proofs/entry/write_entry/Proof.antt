@@ -1,4 +1,4 @@
--- `iterator::entry::write_entry` meets its contract: the two fields, one directly after the other. Assumes nothing.
+-- `walk::entry::write_entry` meets its contract: the two fields, one directly after the other. Assumes nothing.
 use Rattle.walk.proofs.EntryLaws.{size-is, size-fits, entry-written}
 use borrow.Author.Needs.{needs}
 use Rattle.walk.proofs.entry.write_entry.Statement.{statement}

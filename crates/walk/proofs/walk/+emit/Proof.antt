@@ -1,13 +1,14 @@
 -- The proof of the cycle of calls {emit}. The measure is the number of branches that a path may still have. The loop's invariant is an equation: what the children
 -- that are left do to the page as it is, is what all of them do to it as it was.
 -- Assumes nothing.
-use mathlib.Core.Path.{_≡_}
+use mathlib.Core.Path.{_≡_, ap, _∙_}
+use mathlib.Core.Logic.{⊎-elim}
 use lib.ListN.{length}
 use borrow.Author.Needs.{needs}
 use Rattle.trie_spec.proofs.WalkLaws.{branch-room, leaf-below}
 use Rattle.walk.specs.Walk.{sheet, HasRoom}
-use Rattle.walk.proofs.SheetLaws.{room-wrong}
-use Rattle.walk.proofs.WalkLaws.{rest, emit-leaf, emit-deep, emit-empty, walk-end, walk-lost, walk-next, walk-stopped, whole-walk, next-below, left-falls}
+use Rattle.walk.proofs.SheetLaws.{room-wrong, moved, room-moved}
+use Rattle.walk.proofs.WalkLaws.{rest, emit-leaf, emit-deep, emit-empty, walk-end, walk-lost, walk-next, walk-stopped, whole-walk, next-below, next-leaf-below, left-falls}
 use Prim.Native.Nat.{ℕ, _-_, _<_}
 use borrow.Fn.Kinds.{In}
 use borrow.Fn.PlainCycle.{Measures, is, falls, and}
@@ -103,6 +104,15 @@ emit-returns-3 t c =
       search (room-wrong, needs),
     )
 
+emit-enum-known-met : (t : ℕ) → emit-lts.Need-enum-known-met (callees t) (emit-at t) emit.Post emit-Inv-loop emit-μ-loop
+emit-enum-known-met t c = search needs
+
+emit-give-requires-2 : (t : ℕ) → emit-lts.Need-give-requires-2 (callees t) (emit-at t) emit.Post emit-Inv-loop emit-μ-loop
+emit-give-requires-2 t c κs = (search needs, search (next-leaf-below, needs), search needs)
+
+emit-enum-known-met-2 : (t : ℕ) → emit-lts.Need-enum-known-met-2 (callees t) (emit-at t) emit.Post emit-Inv-loop emit-μ-loop
+emit-enum-known-met-2 t c = search needs
+
 emit-sub-emit : (t : ℕ) → emit-lts.Need-sub-emit (callees t) (emit-at t) emit.Post emit-Inv-loop emit-μ-loop
 emit-sub-emit t c = search needs
 
@@ -113,20 +123,31 @@ emit-stopped-requires : (t : ℕ) → emit-lts.Need-stopped-requires (callees t)
 emit-stopped-requires t c κs = search needs
 
 emit-same-length-2 : (t : ℕ) → emit-lts.Need-same-length-2 (callees t) (emit-at t) emit.Post emit-Inv-loop emit-μ-loop
-emit-same-length-2 t c = search needs
+emit-same-length-2 t c = ⊎-elim (λ w. ap length (w .7) ∙ search needs) (λ w. ap length (w .7) ∙ search needs) (c .before .before .match3 .came)
 
 emit-returns-4 : (t : ℕ) → emit-lts.Need-returns-4 (callees t) (emit-at t) emit.Post emit-Inv-loop emit-μ-loop
 emit-returns-4 t c =
-    let given = c .before .before .before .before in
-    let met = given .before .before .before in
+    let came = c .before .before in
+    let met = came .before .before in
     let found = met .before .before in
     let loop = found .before .before in
-    let counted = loop .before .before in (
+    let counted = loop .before .before in
+    ⊎-elim
+    (λ w. (
       whole-walk _ _ _ _ _ _ (counted .before .before .before .child2 .given .1) _ (counted .child-count .ensures) _ _ (counted .before .if1 .left) (loop .before .if2 .left)
           (walk-stopped _ _ _ _ _ _ _ (counted .child-count .ensures) _ _ (loop .loop .inv .2) (found .before .loop-test .taken) _ (found .child-at .ensures)
-          _ (met .next .given .1) _ _ (given .emit .ensures .0) _ (c .before .stopped .ensures) (search needs)),
-      search needs,
-    )
+          _ (met .next .given .1) _ _
+          (emit-leaf _ _ _ _ _ _ _ _ _ _ (w .1 .given .1) (moved _ _ _ _ _ (w .7) (w .8) (w .4 .ensures .0))) _ (c .before .stopped .ensures) (c .if3 .taken)),
+      room-moved _ _ _ _ (w .7) (w .8) (w .4 .ensures .1),
+    ))
+    (λ w. (
+      whole-walk _ _ _ _ _ _ (counted .before .before .before .child2 .given .1) _ (counted .child-count .ensures) _ _ (counted .before .if1 .left) (loop .before .if2 .left)
+          (walk-stopped _ _ _ _ _ _ _ (counted .child-count .ensures) _ _ (loop .loop .inv .2) (found .before .loop-test .taken) _ (found .child-at .ensures)
+          _ (met .next .given .1) _ _
+          (moved _ _ _ _ _ (w .7) (w .8) (w .4 .ensures .0)) _ (c .before .stopped .ensures) (c .if3 .taken)),
+      room-moved _ _ _ _ (w .7) (w .8) (w .4 .ensures .1),
+    ))
+    (came .match3 .came)
 
 emit-add-i : (t : ℕ) → emit-lts.Need-add-i (callees t) (emit-at t) emit.Post emit-Inv-loop emit-μ-loop
 emit-add-i t c = search needs
@@ -136,16 +157,27 @@ emit-loop-less t c = search needs
 
 emit-loop-again : (t : ℕ) → emit-lts.Need-loop-again (callees t) (emit-at t) emit.Post emit-Inv-loop emit-μ-loop
 emit-loop-again t c =
-    let given = c .before .before .before .before in
-    let met = given .before .before .before in
+    let came = c .before .before in
+    let met = came .before .before in
     let found = met .before .before in
     let loop = found .before .before in
-    let counted = loop .before .before in (
-      search needs,
-      search needs,
+    let counted = loop .before .before in
+    ⊎-elim
+    (λ w. (
+      room-moved _ _ _ _ (w .7) (w .8) (w .4 .ensures .1),
+      ap length (w .7) ∙ search needs,
       walk-next _ _ _ _ _ _ _ (counted .child-count .ensures) _ _ (loop .loop .inv .2) (found .before .loop-test .taken) _ (found .child-at .ensures)
-          _ (met .next .given .1) _ _ (given .emit .ensures .0),
-    )
+          _ (met .next .given .1) _ _
+          (emit-leaf _ _ _ _ _ _ _ _ _ _ (w .1 .given .1) (moved _ _ _ _ _ (w .7) (w .8) (w .4 .ensures .0))),
+    ))
+    (λ w. (
+      room-moved _ _ _ _ (w .7) (w .8) (w .4 .ensures .1),
+      ap length (w .7) ∙ search needs,
+      walk-next _ _ _ _ _ _ _ (counted .child-count .ensures) _ _ (loop .loop .inv .2) (found .before .loop-test .taken) _ (found .child-at .ensures)
+          _ (met .next .given .1) _ _
+          (moved _ _ _ _ _ (w .7) (w .8) (w .4 .ensures .0)),
+    ))
+    (came .match3 .came)
 
 emit-same-length-3 : (t : ℕ) → emit-lts.Need-same-length-3 (callees t) (emit-at t) emit.Post emit-Inv-loop emit-μ-loop
 emit-same-length-3 t c = search needs
@@ -185,6 +217,9 @@ pub +emit-spec : {M : Type 1} → statement M
     (emit-wrong-requires-3 t)
     (emit-same-length t)
     (emit-returns-3 t)
+    (emit-enum-known-met t)
+    (emit-give-requires-2 t)
+    (emit-enum-known-met-2 t)
     (emit-sub-emit t)
     (emit-emit-requires t)
     (emit-stopped-requires t)

@@ -1,4 +1,4 @@
--- `iterator::walk::emit_from` meets its contract: the place, and what stands from there on. Assumes nothing.
+-- `walk::walk::emit_from` meets its contract: the place, and what stands from there on. Assumes nothing.
 use Rattle.walk.proofs.AfterLaws.{from-place}
 use borrow.Author.Needs.{needs}
 use Rattle.walk.proofs.walk.emit_from.Statement.{statement}

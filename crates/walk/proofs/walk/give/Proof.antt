@@ -1,4 +1,4 @@
--- `iterator::walk::give` meets its contract: by the ways out: a page that has stopped, one that is full, and an entry written. Assumes nothing.
+-- `walk::walk::give` meets its contract: by the ways out: a page that has stopped, one that is full, and an entry written. Assumes nothing.
 use Rattle.walk.proofs.SheetLaws.{give-stopped, give-further, give-written, room-written}
 use borrow.Author.Needs.{needs}
 use Rattle.walk.proofs.walk.give.Statement.{statement}

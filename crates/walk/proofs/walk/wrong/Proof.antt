@@ -1,4 +1,4 @@
--- `iterator::walk::wrong` meets its contract: a page that has stopped, and one that goes on. Assumes nothing.
+-- `walk::walk::wrong` meets its contract: a page that has stopped, and one that goes on. Assumes nothing.
 use Rattle.walk.proofs.SheetLaws.{wrong-going}
 use borrow.Author.Needs.{needs}
 use Rattle.walk.proofs.walk.wrong.Statement.{statement}

@@ -1,0 +1,3 @@
+pub mod Contracts
+pub mod SlotLaws
+pub mod NodeLaws

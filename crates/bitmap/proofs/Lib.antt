@@ -1,0 +1,3 @@
+pub mod BitLaws
+pub mod BitmapLaws
+pub mod EntryLaws

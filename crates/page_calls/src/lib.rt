@@ -1,0 +1,2 @@
+// The calls for a listing, page by page.
+pub mod pages;
