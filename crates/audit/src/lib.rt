@@ -17,7 +17,7 @@ use crate::free::{branches_free, leaves_free};
 use audit_tree::tree::tree_right;
 use node::header::{Head, Header, read_head};
 
-#[derive(Drop)]
+#[derive(Clone, Copy)]
 pub enum Checked {
     Done,
     Store,

@@ -16,7 +16,7 @@ use node::leaf::{fits, key};
 const SLOTS: u8 = 17;
 
 // What the check of a node says: the first leaf below it and how many leaves and branches were met, or that no picture is there.
-#[derive(Drop)]
+#[derive(Clone, Copy)]
 pub enum Seen {
     Good {
         first: LeafNo,
@@ -27,7 +27,7 @@ pub enum Seen {
 }
 
 // What was met of a branch's children so far. The first leaf has no meaning while there is no child.
-#[derive(Drop)]
+#[derive(Clone, Copy)]
 pub struct Tally {
     pub kids: usize,
     pub first: LeafNo,
@@ -35,7 +35,7 @@ pub struct Tally {
     pub branches: usize,
 }
 
-#[derive(Drop)]
+#[derive(Clone, Copy)]
 pub enum Counted {
     Going(Tally),
     Stop,

@@ -42,7 +42,7 @@ fn answer_held(store: &mut [u8], held: Held, line: &[u8], out: &mut [u8]) -> usi
 }
 
 // The bytes of the piece that are taken, what is held after them, and the bytes that are answered.
-#[derive(Drop)]
+#[derive(Clone, Copy)]
 pub struct Turn {
     pub used: usize,
     pub held: Held,

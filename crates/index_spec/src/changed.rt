@@ -1,5 +1,5 @@
 // What a call answers that changes a stored key or takes it out.
-#[derive(Drop)]
+#[derive(Clone, Copy)]
 pub enum Changed {
     Done,
     // the slice is too short, the header is wrong, or the store holds no tree

@@ -1,5 +1,5 @@
 // A lookup's answer.
-#[derive(Drop)]
+#[derive(Clone, Copy)]
 pub enum Got {
     Value(u32),
     // the slice is too short, the header is wrong, or the store holds no tree

@@ -1,5 +1,5 @@
 // An insertion's answer.
-#[derive(Drop)]
+#[derive(Clone, Copy)]
 pub enum Inserted {
     New,
     // the key was stored, and has the new value

@@ -1,5 +1,5 @@
 // Whether a store has no key.
-#[derive(Drop)]
+#[derive(Clone, Copy)]
 pub enum Empty {
     Yes,
     No,

@@ -1,12 +1,12 @@
 // The mode of a listing, and the answer of a page.
 // Whether the key that is equal to the prefix is listed.
-#[derive(Drop)]
+#[derive(Clone, Copy)]
 pub enum Mode {
     Plain,
     Inclusive,
 }
 
-#[derive(Drop)]
+#[derive(Clone, Copy)]
 pub enum Paged {
     // the entries given, the bytes that they take in the output, and whether no further one is stored
     Done {

@@ -1,5 +1,5 @@
 // The answer to another height limit.
-#[derive(Drop)]
+#[derive(Clone, Copy)]
 pub enum Limited {
     Done,
     // the slice is too short or the header is wrong

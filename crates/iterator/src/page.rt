@@ -17,7 +17,7 @@ use node::header::Header;
 use trie_spec::descent::{Closest, Walked};
 use walk::walk::{Progress, Stop, emit_after};
 
-#[derive(Drop)]
+#[derive(Clone, Copy)]
 pub enum Listed {
     Page {
         entries: usize,

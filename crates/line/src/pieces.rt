@@ -6,7 +6,7 @@ ghost use Rattle.line.specs.Code.{LineIs, held_in, HeldIs, taken_in, TakenIs};
 use crate::reading::{LINE_LIMIT, Parsed, parse_short};
 
 // What is held of the present line: so many bytes at the start of a lent buffer of LINE_LIMIT bytes, or that it is too long.
-#[derive(Drop)]
+#[derive(Clone, Copy)]
 pub struct Held {
     pub count: usize,
     pub over: bool,
@@ -35,7 +35,7 @@ pub fn hold(held: Held, c: u8, line: &mut [u8]) -> Held
 }
 
 // A piece of input gave its bytes up to the first newline, so many with it; or all of them.
-#[derive(Drop)]
+#[derive(Clone, Copy)]
 pub enum Taken {
     More(Held),
     Ended(Held, usize),

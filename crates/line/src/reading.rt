@@ -37,7 +37,7 @@ fn wide(x: u8) -> u64
 }
 
 // A decoded key is so many bytes at the start of a lent buffer.
-#[derive(Drop)]
+#[derive(Clone, Copy)]
 pub enum Decoded {
     Bytes(usize),
     Not,
@@ -85,7 +85,7 @@ pub fn decode_key(word: &[u8], key: &mut [u8]) -> Decoded
     decode_pairs(word, key)
 }
 
-#[derive(Drop)]
+#[derive(Clone, Copy)]
 pub enum Number {
     Value(u32),
     Not,
@@ -131,7 +131,7 @@ pub fn first_space(s: &[u8]) -> usize
 }
 
 // A line as it was read: a key is so many bytes at the start of the lent buffer.
-#[derive(Drop)]
+#[derive(Clone, Copy)]
 pub enum Parsed {
     Insert(usize, u32),
     Get(usize),
@@ -143,7 +143,7 @@ pub enum Parsed {
 }
 
 // The commands that have a key and nothing more.
-#[derive(Drop)]
+#[derive(Clone, Copy)]
 pub enum Verb {
     Get,
     Delete,

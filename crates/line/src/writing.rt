@@ -85,7 +85,7 @@ pub fn put_number(value: u32, out: &mut [u8]) -> usize
 }
 
 // The answers that are one line.
-#[derive(Drop)]
+#[derive(Clone, Copy)]
 pub enum Answer {
     New,
     Replaced,

@@ -81,7 +81,7 @@ fn keep_key(page: &[u8], at: usize, key: &mut [u8]) -> usize
 }
 
 // What was shown of a page: the bytes of its lines, and, if there are more entries, the size of the last key, which is kept.
-#[derive(Drop)]
+#[derive(Clone, Copy)]
 pub struct Shown {
     pub bytes: usize,
     pub size: usize,

@@ -6,26 +6,26 @@ ghost use Rattle.node.specs.Child.{link_of, next_of, item_of, code_of, number_in
 
 use crate::layout::MOST;
 
-#[derive(Drop)]
+#[derive(Clone, Copy)]
 pub struct LeafNo(pub u16);
 
-#[derive(Drop)]
+#[derive(Clone, Copy)]
 pub struct BranchNo(pub u16);
 
-#[derive(Drop)]
+#[derive(Clone, Copy)]
 pub enum Child {
     Leaf(LeafNo),
     Branch(BranchNo),
 }
 
-#[derive(Drop)]
+#[derive(Clone, Copy)]
 pub struct Link {
     pub child: Child,
     pub position: u8,
 }
 
 // What a slot of a branch leads to.
-#[derive(Drop)]
+#[derive(Clone, Copy)]
 pub enum Linked {
     To(Link),
     // nothing is in the slot
@@ -35,7 +35,7 @@ pub enum Linked {
 }
 
 // A link taken apart, for a loop that goes on from it: one jump tells what it leads to.
-#[derive(Drop)]
+#[derive(Clone, Copy)]
 pub enum Next {
     Leaf(LeafNo, u8),
     Branch(BranchNo, u8),

@@ -10,7 +10,7 @@ use fields::little::{read2, read3, read4, write2, write3, write4};
 // The mark and the layout's version.
 const MARK: u32 = 0x31505150;
 
-#[derive(Drop)]
+#[derive(Clone, Copy)]
 pub struct Header {
     pub capacity: u16,
     pub limit: u16,
@@ -24,7 +24,7 @@ pub struct Header {
     pub branch: u16,
 }
 
-#[derive(Drop)]
+#[derive(Clone, Copy)]
 pub enum Head {
     Good(Header),
     Bad,

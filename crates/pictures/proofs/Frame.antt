@@ -69,7 +69,7 @@ pub lacks_every : (p : ℕ) (w : List ℕ) (s : ℕ) (ks : Kids) → Pictures p 
 lacks_every p w s end h d = tt
 lacks_every p w s (kid r t ks) h d = (every_map (λ l b e. d.0 (sym e ∙ b.slot)) t h.2, lacks_every p w s ks h.3 d.1)
 
-some_at : (P : List ℕ → Type 0) (p : ℕ) (w : List ℕ) (low : ℕ) {s : ℕ} {u : Tree} {ks : Kids} → At s u ks → ((l : List ℕ) → P l → nibble l p ≡ s)
+some_at : (P : List ℕ → Type 0) (p : ℕ) (w : List ℕ) {s : ℕ} {u : Tree} {ks : Kids} (low : ℕ) → At s u ks → ((l : List ℕ) → P l → nibble l p ≡ s)
     → Pictures p w ks → SlotsRise low ks → Somes P ks → Some P u
 some_at P p w low here f h m (inl a) = a
 some_at P p w low (here {ks}) f h m (inr a) =

@@ -16,14 +16,14 @@ use node::header::Header;
 use node::layout::{ARRAY, FREE, array_at, size_at, value_at};
 
 // The record taken, with the header after it.
-#[derive(Drop)]
+#[derive(Clone, Copy)]
 pub enum TakenLeaf {
     Record(LeafNo, Header),
     // none is free, or the chain is broken
     Nothing,
 }
 
-#[derive(Drop)]
+#[derive(Clone, Copy)]
 pub enum TakenBranch {
     Record(BranchNo, Header),
     // none is free, or the chain is broken

@@ -8,7 +8,7 @@ use node::child::{BranchNo, LeafNo};
 use node::header::{Header, put_head, put_mark};
 use node::layout::{BLOCK, HEAD, LAST, NO_ROOT, capacity_of};
 
-#[derive(Drop)]
+#[derive(Clone, Copy)]
 pub enum Made {
     Done,
     // the slice has no room for a block

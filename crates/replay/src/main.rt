@@ -25,7 +25,7 @@ use calls::answer;
 use input::{part, record_size};
 
 // What stands between two records: the store's size, and how many bytes of the output are filled.
-#[derive(Drop)]
+#[derive(Clone, Copy)]
 pub struct State {
     pub len: usize,
     pub filled: usize,
@@ -66,7 +66,7 @@ fn play(block: &[u8], all: &mut [u8], page: &mut [u8], out: &mut [u8], state: St
 }
 
 // What stands between two blocks, and whether there was one.
-#[derive(Drop)]
+#[derive(Clone, Copy)]
 pub struct Turn {
     pub len: usize,
     pub filled: usize,

@@ -11,21 +11,21 @@ use bitmap::bits::{count, lowest, place, present, with, without};
 use items::{bitmap, close, item, open, put_bitmap, put_item};
 
 // What a slot holds, or what was taken out.
-#[derive(Drop)]
+#[derive(Clone, Copy)]
 pub enum Got {
     Item(u32),
     Absent,
 }
 
 // Where a slot's item stands, or would stand.
-#[derive(Drop)]
+#[derive(Clone, Copy)]
 pub enum Place {
     At(usize),
     Absent,
 }
 
 // What a store of an item did.
-#[derive(Drop)]
+#[derive(Clone, Copy)]
 pub enum Put {
     New,
     Replaced,
@@ -33,7 +33,7 @@ pub enum Put {
 }
 
 // What a removal did.
-#[derive(Drop)]
+#[derive(Clone, Copy)]
 pub enum Removed {
     Done,
     Absent,

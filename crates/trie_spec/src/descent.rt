@@ -2,14 +2,14 @@
 use node::child::{BranchNo, Child, LeafNo};
 
 // Where a link stands: in the header, or in a slot of a branch.
-#[derive(Drop)]
+#[derive(Clone, Copy)]
 pub enum Spot {
     Root,
     Under(BranchNo, u8),
 }
 
 // The last step of a descent: the child that it led to, that child's position, where its link stands, and where the link to the branch above it stands.
-#[derive(Drop)]
+#[derive(Clone, Copy)]
 pub struct Step {
     pub child: Child,
     pub position: u8,
@@ -17,7 +17,7 @@ pub struct Step {
     pub above: Spot,
 }
 
-#[derive(Drop)]
+#[derive(Clone, Copy)]
 pub enum Walked {
     // the node met, and the step to it
     At(Child, Step),
@@ -28,7 +28,7 @@ pub enum Walked {
 }
 
 // The way down by the key's nibbles, as far as it goes.
-#[derive(Drop)]
+#[derive(Clone, Copy)]
 pub enum Way {
     // the leaf at its end, how many branches lie above it, the step to it, and the highest position on the way
     Leaf(LeafNo, usize, Step, u8),
@@ -39,14 +39,14 @@ pub enum Way {
 }
 
 // The closest leaf, how many branches lie above it, where the way down by the key's nibbles ends, and the highest position on that way.
-#[derive(Drop)]
+#[derive(Clone, Copy)]
 pub enum Near {
     Leaf(LeafNo, usize, Walked, u8),
     Wrong,
 }
 
 // The closest leaf, and how many branches lie above it.
-#[derive(Drop)]
+#[derive(Clone, Copy)]
 pub enum Closest {
     Leaf(LeafNo, usize),
     Wrong,

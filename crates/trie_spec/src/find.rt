@@ -3,7 +3,7 @@ use crate::descent::Step;
 use node::child::LeafNo;
 
 // What an exact lookup finds.
-#[derive(Drop)]
+#[derive(Clone, Copy)]
 pub enum Exact {
     // the leaf, and the last step of the descent to it
     Leaf(LeafNo, Step),
@@ -13,7 +13,7 @@ pub enum Exact {
 }
 
 // The leaf that an exact lookup finds, without the way to it.
-#[derive(Drop)]
+#[derive(Clone, Copy)]
 pub enum Found {
     Leaf(LeafNo),
     Absent,

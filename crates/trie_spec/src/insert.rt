@@ -1,5 +1,5 @@
 // The answer of an insertion.
-#[derive(Drop)]
+#[derive(Clone, Copy)]
 pub enum Put {
     New,
     Replaced,

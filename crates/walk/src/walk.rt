@@ -15,7 +15,7 @@ use node::branch::{child_at, child_count, child_place, get_child};
 use node::child::{BranchNo, Child, LeafNo, Link, Linked};
 
 // Whether a page goes on.
-#[derive(Drop)]
+#[derive(Clone, Copy)]
 pub enum Stop {
     Going,
     // there is a further entry, which is not wanted
@@ -25,7 +25,7 @@ pub enum Stop {
 }
 
 // How far a page is: the bytes written, and the entries that are still wanted.
-#[derive(Drop)]
+#[derive(Clone, Copy)]
 pub struct Progress {
     pub at: usize,
     pub left: usize,
