@@ -1,0 +1,66 @@
+-- The proof of the cycle of calls {emit_after}. The measure is the number of branches that a path may still have. Assumes nothing.
+use borrow.Author.Rules.{rules}
+use Rattle.trie_spec.proofs.WalkLaws.{branch_room, branch_below, leaf_below, link_below, slot_fits}
+use Rattle.walk.proofs.SheetLaws.{room_wrong}
+use Rattle.walk.proofs.WalkLaws.{left_falls}
+use Rattle.walk.proofs.AfterLaws.{from_leaf, from_leaf_before, from_deep, from_past, from_past_before, from_absent, from_wrong, from_both, from_stopped}
+use borrow.Fn.PlainCycle.{is}
+use Rattle.walk.proofs.walk.+emit_after.Goals as goal
+
+pub give-requires : goal.give-requires
+give-requires t c = search (leaf_below, rules)
+
+pub returns-then-up : goal.returns-then-up
+returns-then-up t c = record { is = search (from_leaf, rules); room = search rules }
+
+pub returns-then-deep-eq0 : goal.returns-then-deep-eq0
+returns-then-deep-eq0 t c = record { is = search (from_deep, rules); room = search (room_wrong, rules) }
+
+pub returns-then-up-2 : goal.returns-then-up-2
+returns-then-up-2 t c = record { is = search (from_past, rules); room = search rules }
+
+pub returns-then-critical-position : goal.returns-then-critical-position
+returns-then-critical-position t c = record { is = search (from_past_before, rules); room = search rules }
+
+pub get_child-requires : goal.get_child-requires
+get_child-requires t c = search (branch_room, rules)
+
+pub emit_after-p-requires : goal.emit_after-p-requires
+emit_after-p-requires t c = (search (left_falls, rules), (search rules, search (link_below, rules), search rules))
+
+pub returns-then-stopped : goal.returns-then-stopped
+returns-then-stopped t c =
+    let inside-slot = c in
+    let inside = inside-slot.before in
+    let deep = inside.before.before in
+    let branch = deep.before.before in
+    record { is = from_stopped _ _ _ _ _ _ _ _ _ _ branch.child2.given.1 deep.if2.false inside.if3.false _ inside-slot.nibble.ensures.0 _ c.get_child.ensures _ c.in-To.is _ _ c.emit_after-p.ensures.0 _ c.stopped.ensures c.if-stopped.true; room = c.emit_after-p.ensures.1 }
+
+pub emit_from-requires : goal.emit_from-requires
+emit_from-requires t c =
+    let inside-slot = c in
+    let inside = inside-slot.before in
+    let deep = inside.before.before in
+    let branch = deep.before.before in
+    let pre = branch.before.before.before.before.before.requires.1 in
+    (pre.0, pre.1, branch_below _ _ _ pre.1 branch.child2.given.1, slot_fits _ inside-slot.nibble.ensures.1, c.emit_after-p.ensures.1)
+
+pub emit_from-requires-in-Absent : goal.emit_from-requires-in-Absent
+emit_from-requires-in-Absent t c = search (branch_below, slot_fits, rules)
+
+pub returns-else-up : goal.returns-else-up
+returns-else-up t c = record { is = search (from_leaf_before, rules); room = search rules }
+
+pub returns-else-stopped : goal.returns-else-stopped
+returns-else-stopped t c =
+    let inside-slot = c in
+    let inside = inside-slot.before in
+    let deep = inside.before.before in
+    let branch = deep.before.before in
+    record { is = from_both _ _ _ _ _ _ _ _ _ _ branch.child2.given.1 deep.if2.false inside.if3.false _ inside-slot.nibble.ensures.0 _ c.get_child.ensures _ c.in-To.is _ _ c.emit_after-p.ensures.0 _ _ c.emit_from.ensures.0; room = c.emit_from.ensures.1 }
+
+pub returns-in-Absent : goal.returns-in-Absent
+returns-in-Absent t c = record { is = search (from_absent, rules); room = search rules }
+
+pub returns-in-Wrong : goal.returns-in-Wrong
+returns-in-Wrong t c = record { is = search (from_wrong, rules); room = search (room_wrong, rules) }
