@@ -10,6 +10,7 @@ use Rattle.walk.proofs.SheetLaws.{room_wrong, moved, room_moved}
 use Rattle.walk.proofs.WalkLaws.{emit_leaf, emit_deep, emit_empty, walk_end, walk_lost, walk_next, walk_stopped, whole_walk, next_below, next_leaf_below, left_falls}
 use borrow.Fn.PlainCycle.{is}
 use Rattle.walk.proofs.walk.+emit.Goals as goal
+use Rattle.walk.proofs.walk.+emit.Goals.{in-Leaf-met, in-Branch-met}
 
 pub give-requires : goal.give-requires
 give-requires t c = search (leaf_below, rules)
@@ -27,9 +28,8 @@ pub child_at-requires : goal.child_at-requires
 child_at-requires t c = search (branch_room, rules)
 
 pub returns-in_default : goal.returns-in_default
-returns-in_default t c =
-    record { is = whole_walk _ _ _ _ _ _ c.in-Branch.is _ c.child_count-count.ensures _ _ c.if-deep-eq0.false c.if-count-eq0.false
-          (walk_lost _ _ _ _ _ _ _ c.child_count-count.ensures _ _ c.loop-i.invariant.2 c.loop-i-test.true _ c.child_at.ensures c.in-To.keys2 _ c.wrong-in_default.ensures); room = search (room_wrong, rules) }
+returns-in_default t c = record { is = whole_walk _ _ _ _ _ _ c.in-Branch.is _ c.child_count-count.ensures _ _ c.if-deep-eq0.false c.if-count-eq0.false
+          (walk_lost _ _ _ _ _ _ _ c.child_count-count.ensures _ _ c.loop-i.invariant.2 c.loop-i-test.true _ c.child_at.ensures (search rules) _ c.wrong-in_default.ensures); room = search (room_wrong, rules) }
 
 pub give-p-requires : goal.give-p-requires
 give-p-requires t c = (search rules, search (next_leaf_below, rules), search rules)
@@ -37,46 +37,39 @@ give-p-requires t c = (search rules, search (next_leaf_below, rules), search rul
 pub emit-p-requires : goal.emit-p-requires
 emit-p-requires t c = (search (left_falls, rules), (search rules, search (next_below, rules), search rules))
 
-pub shape_of-out-then-stopped : goal.shape_of-out-then-stopped
-shape_of-out-then-stopped t c = ⊎_elim (λ w. ap length w.7 ∙ search rules) (λ w. ap length w.7 ∙ search rules) c.in-Leaf-met.branch
-
 pub returns-then-stopped : goal.returns-then-stopped
 returns-then-stopped t c =
-    ⊎_elim
-    (λ w. (
-      whole_walk _ _ _ _ _ _ c.in-Branch.is _ c.child_count-count.ensures _ _ c.if-deep-eq0.false c.if-count-eq0.false
-          (walk_stopped _ _ _ _ _ _ _ c.child_count-count.ensures _ _ c.loop-i.invariant.2 c.loop-i-test.true _ c.child_at.ensures
-          _ c.in-To.is _ _
-          (emit_leaf _ _ _ _ _ _ _ _ _ _ w.1.given.1 (moved _ _ _ _ _ w.7 w.8 w.4.ensures.0)) _ c.stopped.ensures c.if-stopped.true),
-      room_moved _ _ _ _ w.7 w.8 w.4.ensures.1,
-    ))
-    (λ w. (
-      whole_walk _ _ _ _ _ _ c.in-Branch.is _ c.child_count-count.ensures _ _ c.if-deep-eq0.false c.if-count-eq0.false
-          (walk_stopped _ _ _ _ _ _ _ c.child_count-count.ensures _ _ c.loop-i.invariant.2 c.loop-i-test.true _ c.child_at.ensures
-          _ c.in-To.is _ _
-          (moved _ _ _ _ _ w.7 w.8 w.4.ensures.0) _ c.stopped.ensures c.if-stopped.true),
-      room_moved _ _ _ _ w.7 w.8 w.4.ensures.1,
-    ))
-    c.in-Leaf-met.branch
+    elim c.match-met.branch [
+      in-Leaf-met w ↦ record {
+        is = whole_walk _ _ _ _ _ _ c.in-Branch.is _ c.child_count-count.ensures _ _ c.if-deep-eq0.false c.if-count-eq0.false
+        (walk_stopped _ _ _ _ _ _ _ c.child_count-count.ensures _ _ c.loop-i.invariant.2 c.loop-i-test.true _ c.child_at.ensures
+        _ c.in-To.is _ _ (emit_leaf _ _ _ _ _ _ _ _ _ _ w.in-Leaf-met.is (moved _ _ _ _ _ w.out-is w.p-is w.give-p.ensures.is)) _ c.stopped.ensures c.if-stopped.true);
+        room = room_moved _ _ _ _ w.out-is w.p-is w.give-p.ensures.room;
+      }
+    | in-Branch-met w ↦ record {
+        is = whole_walk _ _ _ _ _ _ c.in-Branch.is _ c.child_count-count.ensures _ _ c.if-deep-eq0.false c.if-count-eq0.false
+        (walk_stopped _ _ _ _ _ _ _ c.child_count-count.ensures _ _ c.loop-i.invariant.2 c.loop-i-test.true _ c.child_at.ensures
+        _ c.in-To.is _ _ (moved _ _ _ _ _ w.out-is w.p-is w.emit-p.ensures.is) _ c.stopped.ensures c.if-stopped.true);
+        room = room_moved _ _ _ _ w.out-is w.p-is w.emit-p.ensures.room;
+      }
+    ]
 
 pub loop-i-preserved : goal.loop-i-preserved
 loop-i-preserved t c =
-    ⊎_elim
-    (λ w. (
-      room_moved _ _ _ _ w.7 w.8 w.4.ensures.1,
-      ap length w.7 ∙ search rules,
-      walk_next _ _ _ _ _ _ _ c.child_count-count.ensures _ _ c.loop-i.invariant.2 c.loop-i-test.true _ c.child_at.ensures
-          _ c.in-To.is _ _
-          (emit_leaf _ _ _ _ _ _ _ _ _ _ w.1.given.1 (moved _ _ _ _ _ w.7 w.8 w.4.ensures.0)),
-    ))
-    (λ w. (
-      room_moved _ _ _ _ w.7 w.8 w.4.ensures.1,
-      ap length w.7 ∙ search rules,
-      walk_next _ _ _ _ _ _ _ c.child_count-count.ensures _ _ c.loop-i.invariant.2 c.loop-i-test.true _ c.child_at.ensures
-          _ c.in-To.is _ _
-          (moved _ _ _ _ _ w.7 w.8 w.4.ensures.0),
-    ))
-    c.in-Leaf-met.branch
+    elim c.match-met.branch [
+      in-Leaf-met w ↦ (
+        room_moved _ _ _ _ w.out-is w.p-is w.give-p.ensures.room,
+        search rules,
+        walk_next _ _ _ _ _ _ _ c.child_count-count.ensures _ _ c.loop-i.invariant.2 c.loop-i-test.true _ c.child_at.ensures
+        _ c.in-To.is _ _ (emit_leaf _ _ _ _ _ _ _ _ _ _ w.in-Leaf-met.is (moved _ _ _ _ _ w.out-is w.p-is w.give-p.ensures.is)),
+      )
+    | in-Branch-met w ↦ (
+        room_moved _ _ _ _ w.out-is w.p-is w.emit-p.ensures.room,
+        search rules,
+        walk_next _ _ _ _ _ _ _ c.child_count-count.ensures _ _ c.loop-i.invariant.2 c.loop-i-test.true _ c.child_at.ensures
+        _ c.in-To.is _ _ (moved _ _ _ _ _ w.out-is w.p-is w.emit-p.ensures.is),
+      )
+    ]
 
 pub returns-in-Leaf : goal.returns-in-Leaf
 returns-in-Leaf t c = record { is = search (emit_leaf, rules); room = search rules }

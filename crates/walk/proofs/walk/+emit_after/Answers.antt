@@ -29,21 +29,14 @@ pub emit_after-p-requires : goal.emit_after-p-requires
 emit_after-p-requires t c = (search (left_falls, rules), (search rules, search (link_below, rules), search rules))
 
 pub returns-then-stopped : goal.returns-then-stopped
-returns-then-stopped t c =
-    let inside-slot = c in
-    let inside = inside-slot.before in
-    let deep = inside.before.before in
-    let branch = deep.before.before in
-    record { is = from_stopped _ _ _ _ _ _ _ _ _ _ branch.child2.given.1 deep.if2.false inside.if3.false _ inside-slot.nibble.ensures.0 _ c.get_child.ensures _ c.in-To.is _ _ c.emit_after-p.ensures.0 _ c.stopped.ensures c.if-stopped.true; room = c.emit_after-p.ensures.1 }
+returns-then-stopped t c = record {
+    is = from_stopped _ _ _ _ _ _ _ _ _ _ c.in-Branch.is c.if-deep-eq0.false c.if-critical-position.false _ c.nibble-slot.ensures.value _ c.get_child.ensures _ c.in-To.is _ _ c.emit_after-p.ensures.is _ c.stopped.ensures c.if-stopped.true;
+    room = c.emit_after-p.ensures.room;
+  }
 
 pub emit_from-requires : goal.emit_from-requires
 emit_from-requires t c =
-    let inside-slot = c in
-    let inside = inside-slot.before in
-    let deep = inside.before.before in
-    let branch = deep.before.before in
-    let pre = branch.before.before.before.before.before.requires.1 in
-    (pre.0, pre.1, branch_below _ _ _ pre.1 branch.child2.given.1, slot_fits _ inside-slot.nibble.ensures.1, c.emit_after-p.ensures.1)
+    (c.requires.0, c.requires.1, branch_below _ _ _ c.requires.1 c.in-Branch.is, slot_fits _ c.nibble-slot.ensures.slot, c.emit_after-p.ensures.room)
 
 pub emit_from-requires-in-Absent : goal.emit_from-requires-in-Absent
 emit_from-requires-in-Absent t c = search (branch_below, slot_fits, rules)
@@ -52,12 +45,10 @@ pub returns-else-up : goal.returns-else-up
 returns-else-up t c = record { is = search (from_leaf_before, rules); room = search rules }
 
 pub returns-else-stopped : goal.returns-else-stopped
-returns-else-stopped t c =
-    let inside-slot = c in
-    let inside = inside-slot.before in
-    let deep = inside.before.before in
-    let branch = deep.before.before in
-    record { is = from_both _ _ _ _ _ _ _ _ _ _ branch.child2.given.1 deep.if2.false inside.if3.false _ inside-slot.nibble.ensures.0 _ c.get_child.ensures _ c.in-To.is _ _ c.emit_after-p.ensures.0 _ _ c.emit_from.ensures.0; room = c.emit_from.ensures.1 }
+returns-else-stopped t c = record {
+    is = from_both _ _ _ _ _ _ _ _ _ _ c.in-Branch.is c.if-deep-eq0.false c.if-critical-position.false _ c.nibble-slot.ensures.value _ c.get_child.ensures _ c.in-To.is _ _ c.emit_after-p.ensures.is _ _ c.emit_from.ensures.is;
+    room = c.emit_from.ensures.room;
+  }
 
 pub returns-in-Absent : goal.returns-in-Absent
 returns-in-Absent t c = record { is = search (from_absent, rules); room = search rules }
