@@ -1,0 +1,31 @@
+-- `line::writing::put_entry` meets its contract. Assumes nothing.
+use Rattle.line.proofs.WriteLaws.{entry_space, entry_part, entry_lent, entry_place, entry_next, entry_kept, entry_end, entry_whole}
+use borrow.Author.Rules.{rules}
+use Rattle.line.proofs.writing.put_entry.Goals as goal
+
+pub bounds-out-n : goal.bounds-out-n
+bounds-out-n c = search (entry_space, rules)
+
+pub slice_bounds-put_number-count : goal.slice_bounds-put_number-count
+slice_bounds-put_number-count c = search (entry_part, rules)
+
+pub slice_bounds-put_number-start : goal.slice_bounds-put_number-start
+slice_bounds-put_number-start c = search (entry_part, rules)
+
+pub put_number-d-requires : goal.put_number-d-requires
+put_number-d-requires c = search (entry_lent, rules)
+
+pub overflow_add-e : goal.overflow_add-e
+overflow_add-e c = search (entry_place, rules)
+
+pub bounds-out-e : goal.bounds-out-e
+bounds-out-e c = search (entry_end, rules)
+
+pub overflow_add-result : goal.overflow_add-result
+overflow_add-result c = search (entry_next, rules)
+
+pub shape_of-out : goal.shape_of-out
+shape_of-out c = search (entry_kept, rules)
+
+pub returns : goal.returns
+returns c = search (entry_whole, rules)
