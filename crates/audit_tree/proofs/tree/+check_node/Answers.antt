@@ -7,6 +7,7 @@ use Rattle.trie_spec.proofs.WalkLaws.{branch_room, leaf_below, link_below}
 use Rattle.audit_tree.proofs.NodeLaws.{node_leaf, node_deep, node_low, node_end, node_wrong, node_none, node_stop, node_going, left_falls, sound_going, sound_stays}
 use borrow.Fn.PlainCycle.{is}
 use Rattle.audit_tree.proofs.tree.+check_node.Goals as goal
+use Rattle.audit_tree.proofs.tree.+check_node.Goals.{in-To+in-Going, in-Absent}
 
 pub check_leaf-requires : goal.check_leaf-requires
 check_leaf-requires t c = search (leaf_below, rules)
@@ -37,17 +38,17 @@ loop-slot-preserved t c =
     let branch = c.in-Branch.is in
     let deep = c.if-left-eq0.false in
     let rises = c.if-p-low.false in
-    ⊎_elim
-    (λ v. (
-      sound_going _ _ _ _ _ v.5.ensures.1 v.7.given.1 v.9,
-      node_going _ _ _ _ _ _ _ branch deep rises _ _ c.loop-slot.invariant.1 _ c.get_child.ensures
-          _ v.1.given.1 _ v.4.ensures.0 _ v.5.ensures.0 _ v.7.given.1 _ v.9,
-    ))
-    (λ v. (
-      sound_stays _ _ _ _ c.loop-slot.invariant.0 v.2,
-      node_none _ _ _ _ _ _ _ branch deep rises _ _ c.loop-slot.invariant.1 _ c.get_child.ensures v.1.given.1 _ v.2,
-    ))
-    c.in-To.branch
+    elim c.match-get_child.branch [
+      in-To+in-Going v ↦ (
+        sound_going _ _ _ _ _ v.add_kid.ensures.grown v.in-Going.is v.t-is,
+        node_going _ _ _ _ _ _ _ branch deep rises _ _ c.loop-slot.invariant.1 _ c.get_child.ensures
+        _ v.in-To.is _ v.check_node-kid.ensures.is _ v.add_kid.ensures.is _ v.in-Going.is _ v.t-is,
+      )
+    | in-Absent v ↦ (
+        sound_stays _ _ _ _ c.loop-slot.invariant.0 v.t-is,
+        node_none _ _ _ _ _ _ _ branch deep rises _ _ c.loop-slot.invariant.1 _ c.get_child.ensures v.in-Absent.is _ v.t-is,
+      )
+    ]
 
 pub returns-in-Leaf : goal.returns-in-Leaf
 returns-in-Leaf t c = record { is = search (node_leaf, rules); modest = search rules }
