@@ -4,6 +4,8 @@
 // as the header counts: each node is told how many leaves may still be met, so that records that are shared cannot be walked again and again. A branch that the
 // walk has left has two children or more, so there are fewer of these than leaves met; those that it has not left stand on one path, of at most STEPS. A branch
 // costs its 17 slots and a comparison of two keys for each child. A chain is followed for as many steps as records are not in use.
+#![tactic(auto)]
+
 pub mod free;
 
 ghost use Rattle.std.specs.Prelude.{◌≡◌, ◌≤◌, length};

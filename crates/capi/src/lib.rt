@@ -1,6 +1,8 @@
 // The public calls for programs in C, C++ and Rust, each under its plain name: a slice is a pointer and a length, an answer is its number, and what stands
 // beside an answer goes through a reference, which is 0 or no with a refusal. Each has the contracts of the index's call: its promise, and what it does
 // on any bytes (`is`). bindings/c/ponybollard.h declares them.
+#![tactic(auto)]
+
 ghost use Rattle.std.specs.Prelude.{◌≡◌};
 ghost use Rattle.trie_spec.specs.Writes.{Did};
 ghost use Rattle.promises.specs.Promises.{Create, Check, IsEmpty, SetLimit, Insert, Get, Overwrite, Remove, FirstPage, NextPage};

@@ -1,4 +1,6 @@
 // Bytes of a lent slice: copies, moves within a slice, and the comparison of two byte strings. `little` and `big` have the numbers.
+#![tactic(auto)]
+
 pub mod big;
 pub mod little;
 

@@ -15,6 +15,8 @@
 //
 // An answer is its number, one byte; a get has the value behind it, 4 bytes, and is_empty 1 or 0, one byte. A page has the count of its entries (2), of
 // their bytes (4), the end mark (1), these bytes, and 1 if the rest of the output is untouched.
+#![tactic(auto)]
+
 mod calls;
 mod input;
 mod output;

@@ -1,5 +1,7 @@
 // The port of sparse_array.rs: a sparse array of 17 slots over a lent part of 55 bytes, a bitmap of 4 bytes and then the items, 3 bytes each, packed.
 // The place of a slot is the number of present slots below it. Every function takes any 55 bytes.
+#![tactic(auto)]
+
 mod items;
 
 ghost use Rattle.std.specs.Prelude.{◌≡◌, eqb, length};

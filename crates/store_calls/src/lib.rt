@@ -1,4 +1,6 @@
 // The calls on a whole store: a new one, the check, whether it has no key, another height limit.
+#![tactic(auto)]
+
 pub mod check;
 pub mod create;
 pub mod is_empty;

@@ -1,4 +1,6 @@
 // Standard input, piece by piece, and the answers to its lines on standard output.
+#![tactic(auto)]
+
 ghost use Rattle.std.specs.Prelude.{◌≡◌, ◌≤◌, length};
 ghost use Rattle.promises.specs.Meaning.{Means};
 ghost use Rattle.promises.specs.Says.{empty};

@@ -1,4 +1,6 @@
 // 511 keys and one more, on stored input.
+#![tactic(auto)]
+
 fn main() {
     let mut piece_space = [0u8; 4096];
     let piece: &mut [u8] = &mut piece_space;

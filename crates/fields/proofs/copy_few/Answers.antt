@@ -13,7 +13,7 @@ step : (src dst : List ℕ) (i : ℕ) → i < length src → i < length dst → 
 step src dst i h k e = rw (add-one, take-suc-set, take-suc src i 0, e)
 
 pub loop-i-preserved : goal.loop-i-preserved
-loop-i-preserved c =     (search rules, search rules, step c.args.src.now c.loop-i.dst c.loop-i.i (search rules) (search rules) c.loop-i.invariant.2)
+loop-i-preserved c = (search rules, search rules, step c.args.src.now c.loop-i.dst c.loop-i.i (search rules) (search rules) c.loop-i.invariant.2)
 
 pub returns : goal.returns
-returns c =     sym (take_all c.loop-i.i c.loop-i.dst (omega arith)) ∙ c.loop-i.invariant.2 ∙ take_all c.loop-i.i c.args.src.now (omega arith)
+returns c = sym (take_all c.loop-i.i c.loop-i.dst (omega arith)) ∙ c.loop-i.invariant.2 ∙ take_all c.loop-i.i c.args.src.now (omega arith)

@@ -20,6 +20,6 @@ pub returns-else-same_eight : goal.returns-else-same_eight
 returns-else-same_eight c = search (eight_differs, rules)
 
 pub returns : goal.returns
-returns c =     let args = c.args in
+returns c = let args = c.args in
     eight_last args.a.now args.b.now (length args.a.now - 8) c.loop-i.i c.same_eight-2.result (omega arith) (omega arith) (omega arith) c.loop-i.invariant.1
     c.same_eight-2.ensures

@@ -39,12 +39,12 @@ loop-slot-preserved t c =
     let deep = c.if-left-eq0.false in
     let rises = c.if-p-low.false in
     elim c.match-get_child.branch [
-      in-To+in-Going v ↦ (
+      | in-To+in-Going v ↦ (
         sound_going _ _ _ _ _ v.add_kid.ensures.grown v.in-Going.is v.t-is,
         node_going _ _ _ _ _ _ _ branch deep rises _ _ c.loop-slot.invariant.1 _ c.get_child.ensures
-        _ v.in-To.is _ v.check_node-kid.ensures.is _ v.add_kid.ensures.is _ v.in-Going.is _ v.t-is,
+            _ v.in-To.is _ v.check_node-kid.ensures.is _ v.add_kid.ensures.is _ v.in-Going.is _ v.t-is,
       )
-    | in-Absent v ↦ (
+      | in-Absent v ↦ (
         sound_stays _ _ _ _ c.loop-slot.invariant.0 v.t-is,
         node_none _ _ _ _ _ _ _ branch deep rises _ _ c.loop-slot.invariant.1 _ c.get_child.ensures v.in-Absent.is _ v.t-is,
       )

@@ -1,4 +1,3 @@
-
 use borrow.Author.Rules.{rules}
 use Rattle.line.proofs.PieceLaws.{take_ended, take_step, take_more}
 use Rattle.line.proofs.pieces.take_line.Goals as goal

@@ -1,4 +1,3 @@
-
 use borrow.Author.Rules.{rules}
 use Rattle.line.proofs.ReadLaws.{prepend_none, pairs_first, pairs_second, pairs_step, pairs_odd, pairs_end}
 use Rattle.line.proofs.reading.decode_pairs.Goals as goal

@@ -1,4 +1,3 @@
-
 use borrow.Author.Rules.{rules}
 use Rattle.line.proofs.ReadLaws.{space_here, space_on, space_end}
 use Rattle.line.proofs.reading.first_space.Goals as goal

@@ -1,4 +1,3 @@
-
 use borrow.Author.Rules.{rules}
 use Rattle.line.proofs.ReadLaws.{number_bad, number_end, number_step, number_grows, number_mul, number_add, number_none, number_long, number_other, number_value, number_over}
 use Rattle.line.proofs.reading.number_of.Goals as goal

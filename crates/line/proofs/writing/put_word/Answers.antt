@@ -1,4 +1,3 @@
-
 use borrow.Author.Rules.{rules}
 use Rattle.line.proofs.WriteLaws.{wrote_none, word_step, word_end}
 use Rattle.line.proofs.writing.put_word.Goals as goal

@@ -1,4 +1,3 @@
-
 use Prim.Native.Nat.{◌-◌, ◌≤◌}
 use lib.ListN.{length, take}
 use Rattle.line.specs.Code.{Wrote}

@@ -28,8 +28,11 @@ pub child_at-requires : goal.child_at-requires
 child_at-requires t c = search (branch_room, rules)
 
 pub returns-in_default : goal.returns-in_default
-returns-in_default t c = record { is = whole_walk _ _ _ _ _ _ c.in-Branch.is _ c.child_count-count.ensures _ _ c.if-deep-eq0.false c.if-count-eq0.false
-          (walk_lost _ _ _ _ _ _ _ c.child_count-count.ensures _ _ c.loop-i.invariant.2 c.loop-i-test.true _ c.child_at.ensures (search rules) _ c.wrong-in_default.ensures); room = search (room_wrong, rules) }
+returns-in_default t c = record {
+  is = whole_walk _ _ _ _ _ _ c.in-Branch.is _ c.child_count-count.ensures _ _ c.if-deep-eq0.false c.if-count-eq0.false
+      (walk_lost _ _ _ _ _ _ _ c.child_count-count.ensures _ _ c.loop-i.invariant.2 c.loop-i-test.true _ c.child_at.ensures (search rules) _ c.wrong-in_default.ensures);
+  room = search (room_wrong, rules);
+}
 
 pub give-p-requires : goal.give-p-requires
 give-p-requires t c = (search rules, search (next_leaf_below, rules), search rules)
@@ -40,16 +43,16 @@ emit-p-requires t c = (search (left_falls, rules), (search rules, search (next_b
 pub returns-then-stopped : goal.returns-then-stopped
 returns-then-stopped t c =
     elim c.match-met.branch [
-      in-Leaf-met w ↦ record {
+      | in-Leaf-met w ↦ record {
         is = whole_walk _ _ _ _ _ _ c.in-Branch.is _ c.child_count-count.ensures _ _ c.if-deep-eq0.false c.if-count-eq0.false
-        (walk_stopped _ _ _ _ _ _ _ c.child_count-count.ensures _ _ c.loop-i.invariant.2 c.loop-i-test.true _ c.child_at.ensures
-        _ c.in-To.is _ _ (emit_leaf _ _ _ _ _ _ _ _ _ _ w.in-Leaf-met.is (moved _ _ _ _ _ w.out-is w.p-is w.give-p.ensures.is)) _ c.stopped.ensures c.if-stopped.true);
+            (walk_stopped _ _ _ _ _ _ _ c.child_count-count.ensures _ _ c.loop-i.invariant.2 c.loop-i-test.true _ c.child_at.ensures
+            _ c.in-To.is _ _ (emit_leaf _ _ _ _ _ _ _ _ _ _ w.in-Leaf-met.is (moved _ _ _ _ _ w.out-is w.p-is w.give-p.ensures.is)) _ c.stopped.ensures c.if-stopped.true);
         room = room_moved _ _ _ _ w.out-is w.p-is w.give-p.ensures.room;
       }
-    | in-Branch-met w ↦ record {
+      | in-Branch-met w ↦ record {
         is = whole_walk _ _ _ _ _ _ c.in-Branch.is _ c.child_count-count.ensures _ _ c.if-deep-eq0.false c.if-count-eq0.false
-        (walk_stopped _ _ _ _ _ _ _ c.child_count-count.ensures _ _ c.loop-i.invariant.2 c.loop-i-test.true _ c.child_at.ensures
-        _ c.in-To.is _ _ (moved _ _ _ _ _ w.out-is w.p-is w.emit-p.ensures.is) _ c.stopped.ensures c.if-stopped.true);
+            (walk_stopped _ _ _ _ _ _ _ c.child_count-count.ensures _ _ c.loop-i.invariant.2 c.loop-i-test.true _ c.child_at.ensures
+            _ c.in-To.is _ _ (moved _ _ _ _ _ w.out-is w.p-is w.emit-p.ensures.is) _ c.stopped.ensures c.if-stopped.true);
         room = room_moved _ _ _ _ w.out-is w.p-is w.emit-p.ensures.room;
       }
     ]
@@ -57,17 +60,17 @@ returns-then-stopped t c =
 pub loop-i-preserved : goal.loop-i-preserved
 loop-i-preserved t c =
     elim c.match-met.branch [
-      in-Leaf-met w ↦ (
+      | in-Leaf-met w ↦ (
         room_moved _ _ _ _ w.out-is w.p-is w.give-p.ensures.room,
         search rules,
         walk_next _ _ _ _ _ _ _ c.child_count-count.ensures _ _ c.loop-i.invariant.2 c.loop-i-test.true _ c.child_at.ensures
-        _ c.in-To.is _ _ (emit_leaf _ _ _ _ _ _ _ _ _ _ w.in-Leaf-met.is (moved _ _ _ _ _ w.out-is w.p-is w.give-p.ensures.is)),
+            _ c.in-To.is _ _ (emit_leaf _ _ _ _ _ _ _ _ _ _ w.in-Leaf-met.is (moved _ _ _ _ _ w.out-is w.p-is w.give-p.ensures.is)),
       )
-    | in-Branch-met w ↦ (
+      | in-Branch-met w ↦ (
         room_moved _ _ _ _ w.out-is w.p-is w.emit-p.ensures.room,
         search rules,
         walk_next _ _ _ _ _ _ _ c.child_count-count.ensures _ _ c.loop-i.invariant.2 c.loop-i-test.true _ c.child_at.ensures
-        _ c.in-To.is _ _ (moved _ _ _ _ _ w.out-is w.p-is w.emit-p.ensures.is),
+            _ c.in-To.is _ _ (moved _ _ _ _ _ w.out-is w.p-is w.emit-p.ensures.is),
       )
     ]
 
@@ -76,5 +79,8 @@ returns-in-Leaf t c = record { is = search (emit_leaf, rules); room = search rul
 
 pub returns-after-loop-i : goal.returns-after-loop-i
 returns-after-loop-i t c =
-    record { is = whole_walk _ _ _ _ _ _ c.in-Branch.is _ c.child_count-count.ensures _ _ c.if-deep-eq0.false c.if-count-eq0.false
-          (walk_end _ _ _ _ _ _ _ c.child_count-count.ensures _ _ c.loop-i.invariant.2 c.loop-i-test.false); room = search rules }
+    record {
+      is = whole_walk _ _ _ _ _ _ c.in-Branch.is _ c.child_count-count.ensures _ _ c.if-deep-eq0.false c.if-count-eq0.false
+          (walk_end _ _ _ _ _ _ _ c.child_count-count.ensures _ _ c.loop-i.invariant.2 c.loop-i-test.false);
+      room = search rules;
+    }

@@ -30,9 +30,9 @@ emit_after-p-requires t c = (search (left_falls, rules), (search rules, search (
 
 pub returns-then-stopped : goal.returns-then-stopped
 returns-then-stopped t c = record {
-    is = from_stopped _ _ _ _ _ _ _ _ _ _ c.in-Branch.is c.if-deep-eq0.false c.if-critical-position.false _ c.nibble-slot.ensures.value _ c.get_child.ensures _ c.in-To.is _ _ c.emit_after-p.ensures.is _ c.stopped.ensures c.if-stopped.true;
-    room = c.emit_after-p.ensures.room;
-  }
+  is = from_stopped _ _ _ _ _ _ _ _ _ _ c.in-Branch.is c.if-deep-eq0.false c.if-critical-position.false _ c.nibble-slot.ensures.value _ c.get_child.ensures _ c.in-To.is _ _ c.emit_after-p.ensures.is _ c.stopped.ensures c.if-stopped.true;
+  room = c.emit_after-p.ensures.room;
+}
 
 pub emit_from-requires : goal.emit_from-requires
 emit_from-requires t c =
@@ -46,9 +46,9 @@ returns-else-up t c = record { is = search (from_leaf_before, rules); room = sea
 
 pub returns-else-stopped : goal.returns-else-stopped
 returns-else-stopped t c = record {
-    is = from_both _ _ _ _ _ _ _ _ _ _ c.in-Branch.is c.if-deep-eq0.false c.if-critical-position.false _ c.nibble-slot.ensures.value _ c.get_child.ensures _ c.in-To.is _ _ c.emit_after-p.ensures.is _ _ c.emit_from.ensures.is;
-    room = c.emit_from.ensures.room;
-  }
+  is = from_both _ _ _ _ _ _ _ _ _ _ c.in-Branch.is c.if-deep-eq0.false c.if-critical-position.false _ c.nibble-slot.ensures.value _ c.get_child.ensures _ c.in-To.is _ _ c.emit_after-p.ensures.is _ _ c.emit_from.ensures.is;
+  room = c.emit_from.ensures.room;
+}
 
 pub returns-in-Absent : goal.returns-in-Absent
 returns-in-Absent t c = record { is = search (from_absent, rules); room = search rules }
