@@ -19,7 +19,7 @@ use Rattle.model.specs.Picture.{Tree, Every, closest}
 use Rattle.model.proofs.Closest.{Some, Far, closest_some, closest_far}
 use Rattle.model.proofs.KeyLaws.{critical_differs}
 use Rattle.pictures.specs.Tree.{New, new_for, insert_at}
-use Rattle.pictures.specs.Records.{at, leaf_times, branch_times, leaves}
+use Rattle.pictures.specs.Records.{at, leaf_times, branch_times}
 use Rattle.pictures.specs.Stored.{Child, root, Site, site, Changes, Written, root_after}
 use Rattle.pictures.specs.Chain.{Accounted}
 use Rattle.pictures.proofs.Put.{Put}

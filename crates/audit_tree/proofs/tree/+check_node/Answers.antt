@@ -1,11 +1,9 @@
 -- The proof of the cycle of calls {check_node}. The measure is the number of branches that a path may still have. The loop's invariant is an equation: the check of
 -- the slots that are left, at the present tally, is the check of all of them from the start.
 -- Assumes nothing.
-use mathlib.Core.Logic.{⊎_elim}
 use borrow.Author.Rules.{rules}
 use Rattle.trie_spec.proofs.WalkLaws.{branch_room, leaf_below, link_below}
 use Rattle.audit_tree.proofs.NodeLaws.{node_leaf, node_deep, node_low, node_end, node_wrong, node_none, node_stop, node_going, left_falls, sound_going, sound_stays}
-use borrow.Fn.PlainCycle.{is}
 use Rattle.audit_tree.proofs.tree.+check_node.Goals as goal
 use Rattle.audit_tree.proofs.tree.+check_node.Goals.{in-To+in-Going, in-Absent}
 

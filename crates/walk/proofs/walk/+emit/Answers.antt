@@ -1,14 +1,10 @@
 -- The proof of the cycle of calls {emit}. The measure is the number of branches that a path may still have. The loop's invariant is an equation: what the children
 -- that are left do to the page as it is, is what all of them do to it as it was.
 -- Assumes nothing.
-use mathlib.Core.Path.{ap, ◌∙◌}
-use mathlib.Core.Logic.{⊎_elim}
-use lib.ListN.{length}
 use borrow.Author.Rules.{rules}
 use Rattle.trie_spec.proofs.WalkLaws.{branch_room, leaf_below}
 use Rattle.walk.proofs.SheetLaws.{room_wrong, moved, room_moved}
 use Rattle.walk.proofs.WalkLaws.{emit_leaf, emit_deep, emit_empty, walk_end, walk_lost, walk_next, walk_stopped, whole_walk, next_below, next_leaf_below, left_falls}
-use borrow.Fn.PlainCycle.{is}
 use Rattle.walk.proofs.walk.+emit.Goals as goal
 use Rattle.walk.proofs.walk.+emit.Goals.{in-Leaf-met, in-Branch-met}
 

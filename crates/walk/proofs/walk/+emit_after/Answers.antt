@@ -4,7 +4,6 @@ use Rattle.trie_spec.proofs.WalkLaws.{branch_room, branch_below, leaf_below, lin
 use Rattle.walk.proofs.SheetLaws.{room_wrong}
 use Rattle.walk.proofs.WalkLaws.{left_falls}
 use Rattle.walk.proofs.AfterLaws.{from_leaf, from_leaf_before, from_deep, from_past, from_past_before, from_absent, from_wrong, from_both, from_stopped}
-use borrow.Fn.PlainCycle.{is}
 use Rattle.walk.proofs.walk.+emit_after.Goals as goal
 
 pub give-requires : goal.give-requires
