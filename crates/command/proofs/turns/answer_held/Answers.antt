@@ -1,6 +1,5 @@
 -- `command::turns::answer_held` answers the line that is held. Assumes nothing.
 use Rattle.command.proofs.TurnLaws.{held_answered}
-use Rattle.command.proofs.turns.answer_held.Lts as lts
 use Rattle.command.proofs.turns.answer_held.Goals as goal
 
 pub returns : goal.returns

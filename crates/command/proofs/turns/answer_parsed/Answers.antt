@@ -1,6 +1,5 @@
 -- `command::turns::answer_parsed` answers a line that was read. Assumes nothing.
 use Rattle.command.proofs.TurnLaws.{key_whole, key_short, parsed_answered, bad_answered, key_answered}
-use Rattle.command.proofs.turns.answer_parsed.Lts as lts
 use Rattle.command.proofs.turns.answer_parsed.Goals as goal
 
 pub slice_bounds-answer_insert-end : goal.slice_bounds-answer_insert-end

@@ -1,6 +1,5 @@
 -- `command::turns::end_input` answers a last line without newline. Assumes nothing.
 use Rattle.command.proofs.TurnLaws.{end_over, end_none, end_some}
-use Rattle.command.proofs.turns.end_input.Lts as lts
 use Rattle.command.proofs.turns.end_input.Goals as goal
 
 pub returns-then-held : goal.returns-then-held

@@ -1,7 +1,6 @@
 -- `command::turns::take_turn` takes a line's bytes and answers it where it ends. Assumes nothing.
 use borrow.Author.Rules.{rules}
 use Rattle.command.proofs.TurnLaws.{turned_more, ended_fits, turned_ended}
-use Rattle.command.proofs.turns.take_turn.Lts as lts
 use Rattle.command.proofs.turns.take_turn.Goals as goal
 
 pub answer_held-n-requires : goal.answer_held-n-requires

@@ -3,7 +3,6 @@ use native.Mathlib.Omega.{arith}
 use lib.ListN.{length-take, length-drop}
 use borrow.Author.Rules.{rules}
 use Rattle.listings.proofs.LineLaws.{last_first, last_bad, last_next}
-use borrow.Fn.PlainCycle.{is}
 use Rattle.listings.proofs.listing.+last_entry.Goals as goal
 
 pub returns-then-count-lt2 : goal.returns-then-count-lt2

@@ -1,7 +1,6 @@
 -- `listings::listing::list_all` writes a whole listing. Assumes nothing.
 use borrow.Author.Rules.{rules}
 use Rattle.listings.proofs.RestLaws.{all_last, all_more}
-use Rattle.listings.proofs.listing.list_all.Lts as lts
 use Rattle.listings.proofs.listing.list_all.Goals as goal
 
 pub returns-then-s : goal.returns-then-s
