@@ -494,7 +494,7 @@ reference_programs = record {
       writer_bytes overwrite_kinds (stored_at k) (put_in k v) (overwrite_kind k v) refl (λ m g. overwrite_good m g k v i.bytes h) (λ m. refl) st s.bytes;
   remove_bytes = λ k st i s.
       writer_bytes remove_kinds (stored_at k) (taken_out k) (remove_kind k) refl (λ m g. remove_good m g k) (λ m. refl) st s.bytes;
-  first_bytes_lem = λ q mode n st out i h s o. (pager_pages q mode start n st out s.bytes o.bytes).1;
+  first_bytes = λ q mode n st out i h s o. (pager_pages q mode start n st out s.bytes o.bytes).1;
   next_bytes = λ q mode k n st out i j h s o. (pager_pages q mode (after_key k) n st out s.bytes o.bytes).1;
 }
 

@@ -48,7 +48,7 @@ pub record Programs (L : Layout) : Type 0 where
   pub insert_bytes : (k : List ℕ) (v : ℕ) (st : List ℕ) → Slice k → v < value_bound → Slice st → Bytes (insert k v st).bytes
   pub overwrite_bytes : (k : List ℕ) (v : ℕ) (st : List ℕ) → Slice k → v < value_bound → Slice st → Bytes (overwrite k v st).bytes
   pub remove_bytes : (k st : List ℕ) → Slice k → Slice st → Bytes (remove k st).bytes
-  pub first_bytes_lem : (q : List ℕ) (mode : Mode) (n : ℕ) (st out : List ℕ) → Slice q → n < value_bound → Slice st → Slice out
+  pub first_bytes : (q : List ℕ) (mode : Mode) (n : ℕ) (st out : List ℕ) → Slice q → n < value_bound → Slice st → Slice out
       → Bytes (first_page q mode n st out).bytes
   pub next_bytes : (q : List ℕ) (mode : Mode) (k : List ℕ) (n : ℕ) (st out : List ℕ) → Slice q → Slice k → n < value_bound → Slice st → Slice out
       → Bytes (next_page q mode k n st out).bytes
