@@ -6,7 +6,7 @@ use std::process::{Command, Stdio};
 use std::time::{Duration, Instant};
 
 pub struct Replay {
-    // the program, with what runs it before it on a machine of another kind
+    // the program, with what runs it before it, if anything does
     pub command: Vec<String>,
     pub folder: PathBuf,
     pub seconds: u64,
