@@ -18,7 +18,8 @@ use Rattle.node.specs.Layout.{array_at}
 use Rattle.node.specs.Child.{to_leaf, to_branch, link_of, item_of}
 use Rattle.node.specs.Branch.{array_in, children_in}
 use Rattle.node.specs.declared.child.Link.{Link}
-use Rattle.node.specs.declared.child.Linked.TheVariants.{To, Wrong}
+use Rattle.std.specs.Prelude.{Ok, Err}
+use Rattle.node.specs.NotAStore.{not_a_store}
 
 -- ---- bytes of a part
 
@@ -65,7 +66,7 @@ children_small st n h =
     (λ i. little_below 3 (part st (array_at n) size) (4 + 3 * i) (λ j l m. bytes_get (part st (array_at n) size) (bytes_part st (array_at n) size h) j))
 
 -- An item that stands for a link is the link's.
-pub item_back : (cap item : ℕ) (l : Link) → item < 16777216 → link_of cap item ≡ To l → item_of l ≡ item
+pub item_back : (cap item : ℕ) (l : Link) → item < 16777216 → link_of cap item ≡ Ok l → item_of l ≡ item
 item_back cap item l h e = go (ltb code cap) (ltb code most) (ltb-false code most) (ltb (code - most) cap) e
   where
     code : ℕ
@@ -75,7 +76,7 @@ item_back cap item l h e = go (ltb code cap) (ltb code most) (ltb-false code mos
     p = item / 65536 % 256
 
     go : (s t : Bool) → (t ≡ false → most ≤ code) → (u : Bool)
-        → cond s (To (to_leaf code p)) (cond t Wrong (cond u (To (to_branch (code - most) p)) Wrong)) ≡ To l → item_of l ≡ item
+        → cond s (Ok (to_leaf code p)) (cond t (Err not_a_store) (cond u (Ok (to_branch (code - most) p)) (Err not_a_store))) ≡ Ok l → item_of l ≡ item
     go true t i u e = let q : to_leaf code p ≡ l = cc in rw (← q) (omega arith)
     go false true i u e = absurd (let z : ◌≡◌ {A = ℕ} 0 1 = cc in omega arith)
     go false false i true e = let q : to_branch (code - most) p ≡ l = cc in rw (← q) (omega (arith, i refl))

@@ -1,12 +1,11 @@
 -- A held picture is found good by the walk, with its first leaf and its counts. Assumes nothing.
 use Prim.Native.Nat.{ℕ, zero, suc, ◌+◌, ◌-◌, ◌*◌, ◌≤◌, ◌<◌}
 use mathlib.Core.Path.{◌≡◌, refl, sym, ap, subst, ◌∙◌}
-use mathlib.Core.Logic.{◌≢◌}
 use mathlib.Core.Bool.{true}
 use mathlib.Core.List.{List}
 use native.Mathlib.Omega.{arith}
-use native.Mathlib.Decide.{ℕ_discrete}
-use borrow.Author.Tests.{eq-eqb, ne_eqb, le-leb, lt-ltb, le-ltb}
+use borrow.Author.Tests.{eq-eqb, le-leb, lt-ltb, le-ltb}
+use Rattle.std.specs.Prelude.{Option as Maybe, Some, None}
 use Rattle.model.specs.Key.{key_limit}
 use Rattle.model.specs.Numbers.{most}
 use Rattle.model.specs.Nibble.{nibble, critical, Agree}
@@ -21,11 +20,9 @@ use Rattle.node.specs.declared.child.LeafNo.{LeafNo}
 use Rattle.node.specs.declared.child.Link.{Link}
 use Rattle.trie_spec.specs.Accepted.{link_to, codes, memory_of}
 use Rattle.trie_spec.proofs.HeldLaws.{Inside, inside_at, link_back}
-use Rattle.audit_tree.specs.Walk.{key_of, tally, none_yet, leaf_seen, stands, head, add_kid, kids_seen, seen}
+use Rattle.audit_tree.specs.Walk.{key_of, tally, good, none_yet, leaf_seen, stands, parts_at, head, add_kid, finish, kids_seen, seen}
 use Rattle.audit_tree.specs.declared.tree.Seen.{Seen}
-use Rattle.audit_tree.specs.declared.tree.Seen.TheVariants.{Good}
 use Rattle.audit_tree.specs.declared.tree.Tally.{Tally}
-use Rattle.audit_tree.specs.declared.tree.Counted.TheVariants.{Going}
 use Rattle.audit_tree.proofs.Contracts.{two_kids}
 use Rattle.audit.proofs.Reached.{inside_rest}
 
@@ -39,7 +36,10 @@ abbrev mutual
   first_of end = record { 0 = 0 }
   first_of (kid s t ks) = first_leaf t
 
-same_good : {n m : LeafNo} {l k b c : ℕ} → n ≡ m → l ≡ k → b ≡ c → Good n l b ≡ Good m k c
+nothing : {A : Type 0} {n : LeafNo} → None ≡ Some n → A
+nothing e = absurd (let z : ◌≡◌ {A = ℕ} 0 1 = cc in omega arith)
+
+same_good : {n m : LeafNo} {l k b c : ℕ} → n ≡ m → l ≡ k → b ≡ c → good n l b ≡ good m k c
 same_good e f g = cc
 
 module _ (st : List ℕ) (cap : ℕ) (few : cap ≤ most) where
@@ -55,17 +55,17 @@ module _ (st : List ℕ) (cap : ℕ) (few : cap ≤ most) where
 
   -- ---- the children of a branch at position p, whose leaves agree with w
 
-  module _ (p budget : ℕ) (w : List ℕ) (below : ℕ → Link → Seen) (n : LeafNo) (ref : Agree p w (key_of st n)) where
+  module _ (p budget : ℕ) (w : List ℕ) (below : ℕ → Link → Maybe Seen) (n : LeafNo) (ref : Agree p w (key_of st n)) where
     -- each child is found good within enough leaves
     abbrev Each : Kids → Type 0
     Each end = Unit {0}
-    Each (kid s u ks) = ((m : ℕ) → leaf_count u ≤ m → below m (link_to (root u)) ≡ Good (first_leaf u) (leaf_count u) (branch_count u)) × Each ks
+    Each (kid s u ks) = ((m : ℕ) → leaf_count u ≤ m → below m (link_to (root u)) ≡ good (first_leaf u) (leaf_count u) (branch_count u)) × Each ks
 
     -- n is the first leaf of all: of the children yet to be met, or of those before them, whose slots are below `low`
     record Leads (t : Tally) (low : ℕ) (ks : Kids) : Type 0 where
-      fresh : t.kids ≡ 0 → first_of ks ≡ n
-      same : t.kids ≢ 0 → t.first ≡ n
-      lower : t.kids ≢ 0 → nibble (key_of st n) p < low
+      fresh : t.first ≡ None → (t.kids ≡ 0) × (first_of ks ≡ n)
+      same : (m : LeafNo) → t.first ≡ Some m → m ≡ n
+      lower : (m : LeafNo) → t.first ≡ Some m → nibble (key_of st n) p < low
 
     module _ (t : Tally) (low s : ℕ) (u : Tree) (ks : Kids) (le : low ≤ s) (h : Holds (memory_of st) u) (pic : Picture u) (b : Every (Below p w s) u) (leads : Leads t low (kid s u ks)) where
       slot_is : nibble (key_of st (first_leaf u)) p ≡ s
@@ -74,51 +74,54 @@ module _ (st : List ℕ) (cap : ℕ) (few : cap ≤ most) where
       agrees : Agree p w (key_of st (first_leaf u))
       agrees = first_every (Agree p w) u h pic (every_map (λ k z. z.agree) u b)
 
-      differs : t.kids ≢ 0 → critical (key_of st t.first) (key_of st (first_leaf u)) ≡ p
-      differs ne =
-          rw (leads.same ne)
-          (sym (critical_only (key_of st n) (key_of st (first_leaf u)) p (agree_trans (agree_sym ref) agrees) (λ q. omega (arith, q, slot_is, leads.lower ne))))
+      differs : (m : LeafNo) → t.first ≡ Some m → critical (key_of st m) (key_of st (first_leaf u)) ≡ p
+      differs m e =
+          rw (leads.same m e)
+          (sym (critical_only (key_of st n) (key_of st (first_leaf u)) p (agree_trans (agree_sym ref) agrees) (λ q. omega (arith, q, slot_is, leads.lower m e))))
 
       stands_so : stands st p s t (first_leaf u) ≡ true
       unfolding stands
-      stands_so = go (ℕ_discrete t.kids 0)
+      stands_so = rw (eq-eqb (nibble (key_of st (first_leaf u)) p) s slot_is) (go t.first refl)
         where
-          go : Dec (t.kids ≡ 0) → stands st p s t (first_leaf u) ≡ true
-          go (yes z) = rw (eq-eqb (nibble (key_of st (first_leaf u)) p) s slot_is, eq-eqb t.kids 0 z)
-          go (no z) =
-              rw (
-                eq-eqb (nibble (key_of st (first_leaf u)) p) s slot_is,
-                ne_eqb t.kids 0 z,
-                eq-eqb (critical (key_of st t.first) (key_of st (first_leaf u))) p (differs z),
-              )
+          go : (o : Maybe LeafNo) → t.first ≡ o → parts_at st p o (first_leaf u) ≡ true
+          go None e = refl
+          go (Some m) e = eq-eqb (critical (key_of st m) (key_of st (first_leaf u))) p (differs m e)
 
       abbrev next : Tally
-      next = tally (t.kids + 1) (head t (first_leaf u)) (t.leaves + leaf_count u) (t.branches + branch_count u)
+      next = tally (t.kids + 1) (Some (head t.first (first_leaf u))) (t.leaves + leaf_count u) (t.branches + branch_count u)
 
-      head_is : head t (first_leaf u) ≡ n
-      head_is = go (ℕ_discrete t.kids 0)
+      head_is : head t.first (first_leaf u) ≡ n
+      head_is = go t.first refl
         where
-          go : Dec (t.kids ≡ 0) → head t (first_leaf u) ≡ n
-          go (yes z) = rw (eq-eqb t.kids 0 z) (leads.fresh z)
-          go (no z) = rw (ne_eqb t.kids 0 z) (leads.same z)
+          go : (o : Maybe LeafNo) → t.first ≡ o → head o (first_leaf u) ≡ n
+          go None e = (leads.fresh e).1
+          go (Some m) e = leads.same m e
 
       leads_on : Leads next (suc s) ks
-      leads_on = record { fresh = λ z. absurd (omega arith); same = λ ne. head_is; lower = λ ne. below_next (ℕ_discrete t.kids 0) }
+      leads_on = record {
+        fresh = λ e. absurd (let z : ◌≡◌ {A = ℕ} 0 1 = cc in omega arith);
+        same = λ m e. let q : head t.first (first_leaf u) ≡ m = cc in sym q ∙ head_is;
+        lower = λ m e. below_next t.first refl;
+      }
         where
-          below_next : Dec (t.kids ≡ 0) → nibble (key_of st n) p < suc s
-          below_next (yes z) = omega (arith, ap (λ (m : LeafNo). nibble (key_of st m) p) (leads.fresh z), slot_is)
-          below_next (no z) = omega (arith, leads.lower z)
+          below_next : (o : Maybe LeafNo) → t.first ≡ o → nibble (key_of st n) p < suc s
+          below_next None e = omega (arith, ap (λ (m : LeafNo). nibble (key_of st m) p) (leads.fresh e).1, slot_is)
+          below_next (Some m) e = omega (arith, leads.lower m e)
 
-      added : add_kid st p s t (Good (first_leaf u) (leaf_count u) (branch_count u)) ≡ Going next
+      added : add_kid st p s t (good (first_leaf u) (leaf_count u) (branch_count u)) ≡ Some next
       unfolding add_kid
       added = rw stands_so
 
     kids_good : (m : ℕ) (t : Tally) (low : ℕ) (ks : Kids) → HoldsAll (memory_of st) ks → Pictures p w ks → SlotsRise low ks → Inside st cap few (branch m p ks) → Each ks
         → Leads t low ks → 2 ≤ t.kids + count ks → t.leaves + tallies (λ i. 1) (λ i q. 0) ks ≤ budget
         → kids_seen st cap p budget below (codes (row ks)) t
-        ≡ Good n (t.leaves + tallies (λ i. 1) (λ i q. 0) ks) (t.branches + tallies (λ i. 0) (λ i q. 1) ks + 1)
+        ≡ good n (t.leaves + tallies (λ i. 1) (λ i q. 0) ks) (t.branches + tallies (λ i. 0) (λ i q. 1) ks + 1)
     unfolding kids_seen
-    kids_good m t low end h a o i each leads two room = sym (two_kids t (omega arith)) ∙ same_good (leads.same (λ z. omega arith)) (omega arith) (omega arith)
+    kids_good m t low end h a o i each leads two room = go t.first refl
+      where
+        go : (o : Maybe LeafNo) → t.first ≡ o → finish t ≡ good n (t.leaves + 0) (t.branches + 0 + 1)
+        go None e = absurd (omega (arith, (leads.fresh e).0))
+        go (Some f) e = sym (two_kids t f e (omega arith)) ∙ same_good (leads.same f e) (omega arith) (omega arith)
     kids_good m t low (kid s u ks) h a o i each leads two room =
         rw (
           link_back st cap few u a.0 (inside_at st cap few here i),
@@ -131,7 +134,7 @@ module _ (st : List ℕ) (cap : ℕ) (few : cap ≤ most) where
 
   -- ---- a node
 
-  leaf_good : (f low budget n v : ℕ) (k : List ℕ) → Holds (memory_of st) (leaf n k v) → 1 ≤ budget → seen st cap f low budget (link_to (root (leaf n k v))) ≡ Good (record { 0 = n }) 1 0
+  leaf_good : (f low budget n v : ℕ) (k : List ℕ) → Holds (memory_of st) (leaf n k v) → 1 ≤ budget → seen st cap f low budget (link_to (root (leaf n k v))) ≡ good (record { 0 = n }) 1 0
   unfolding seen leaf_seen
   leaf_good zero low budget n v k h l = rw (lt-ltb 0 budget l, le-leb (leaf_in st n).size key_limit (omega (arith, h.size, h.fits)))
   leaf_good (suc f) low budget n v k h l = rw (lt-ltb 0 budget l, le-leb (leaf_in st n).size key_limit (omega (arith, h.size, h.fits)))
@@ -139,18 +142,18 @@ module _ (st : List ℕ) (cap : ℕ) (few : cap ≤ most) where
   branch_good : (f low budget n p : ℕ) (ks : Kids) → Holds (memory_of st) (branch n p ks) → (a : Picture (branch n p ks)) → low ≤ p → Inside st cap few (branch n p ks)
       → leaf_count (branch n p ks) ≤ budget
       → ((r : LeafNo) (ref : Agree p a.0 (key_of st r)) → Each p budget a.0 (λ m k. seen st cap f (p + 1) m k) r ref ks)
-      → seen st cap (suc f) low budget (link_to (root (branch n p ks))) ≡ Good (first_of ks) (leaf_count (branch n p ks)) (branch_count (branch n p ks))
+      → seen st cap (suc f) low budget (link_to (root (branch n p ks))) ≡ good (first_of ks) (leaf_count (branch n p ks)) (branch_count (branch n p ks))
   unfolding seen
   branch_good f low budget n p ks h a s i l each =
       let ref : Agree p a.0 (key_of st (first_of ks)) = first_everys (Agree p a.0) p a.0 ks h.1 a.1 (omega (arith, a.3)) (everys_map (λ k z. z.agree) ks (kids_from p a.0 0 ks a.1 a.2)) in
       rw (le-ltb p low s, h.0)
       (kids_good p budget a.0 (λ m k. seen st cap f (p + 1) m k) (first_of ks) ref n none_yet 0 ks h.1 a.1 a.2 i (each (first_of ks) ref)
-      (record { fresh = λ z. refl; same = λ ne. absurd (ne refl); lower = λ ne. absurd (ne refl) }) (omega (arith, a.3)) (omega arith)
+      (record { fresh = λ e. (refl, refl); same = λ m e. nothing e; lower = λ m e. nothing e }) (omega (arith, a.3)) (omega arith)
       ∙ same_good refl (omega arith) (omega arith))
 
   mutual
     pub seen_good : (f low budget : ℕ) (t : Tree) → Holds (memory_of st) t → Picture t → StartsAt low t → Inside st cap few t → 2 * key_limit ≤ low + f → leaf_count t ≤ budget
-        → seen st cap f low budget (link_to (root t)) ≡ Good (first_leaf t) (leaf_count t) (branch_count t)
+        → seen st cap f low budget (link_to (root t)) ≡ good (first_leaf t) (leaf_count t) (branch_count t)
     seen_good f low budget (leaf n k v) h a s i d l = leaf_good f low budget n v k h l
     seen_good zero low budget (branch n p ks) h a s i d l = absurd (omega (arith, place_bound n p ks a))
     seen_good (suc f) low budget (branch n p ks) h a s i d l =

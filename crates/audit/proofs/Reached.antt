@@ -25,7 +25,8 @@ use Rattle.node.specs.Leaf.{Is, leaf_in}
 use Rattle.records.specs.Chain.{leaves, branches}
 use Rattle.node.specs.Branch.{children_in}
 use Rattle.node.specs.declared.child.Link.{Link}
-use Rattle.node.specs.declared.child.Linked.TheVariants.{To}
+use Rattle.std.specs.Prelude.{Result, Ok}
+use Rattle.node.specs.declared.NotAStore.{NotAStore}
 use Rattle.trie_spec.specs.Accepted.{link_to, codes, memory_of}
 use Rattle.trie_spec.proofs.HeldLaws.{Inside, inside_at, link_back}
 
@@ -59,7 +60,7 @@ module _ (st : List ℕ) (cap : ℕ) (few : cap ≤ most) where
 
   same_root : (t u : Tree) → Picture t → Picture u → In t → In u → item_of (link_to (root t)) ≡ item_of (link_to (root u)) → root t ≡ root u
   same_root t u h g i j e =
-      let a : To (link_to (root t)) ≡ To (link_to (root u)) = sym (link_back st cap few t h i) ∙ ap (link_of cap) e ∙ link_back st cap few u g j in
+      let a : ◌≡◌ {A = Result Link NotAStore} (Ok (link_to (root t))) (Ok (link_to (root u))) = sym (link_back st cap few t h i) ∙ ap (link_of cap) e ∙ link_back st cap few u g j in
       let b : link_to (root t) ≡ link_to (root u) = cc in
       link_root (root t) (root u) b
 

@@ -1,14 +1,15 @@
 -- What the walk finds good is a held picture. Assumes nothing.
 use Prim.Native.Nat.{ℕ, zero, suc, ◌+◌, ◌-◌, ◌≤◌, ◌<◌}
 use mathlib.Core.Path.{◌≡◌, refl, sym, ap, subst, ◌∙◌}
-use mathlib.Core.Logic.{◌≢◌, ◌⊎◌, inl, inr}
-use mathlib.Core.Bool.{Bool, true, false, cond, ◌&&◌, ◌||◌}
+use mathlib.Core.Logic.{◌⊎◌, inl, inr}
+use mathlib.Core.Bool.{Bool, true, false, cond, ◌&&◌}
 use mathlib.Core.List.{List, [], ◌∷◌}
 use native.Mathlib.Omega.{arith}
 use native.Mathlib.Decide.{ℕ_discrete}
 use lib.Dec.{leb, ltb, eqb}
 use lib.ListN.{length}
-use borrow.Author.Tests.{eqb-true, eq-eqb, ne_eqb, leb-true, ltb-false}
+use borrow.Author.Tests.{eqb-true, leb-true, ltb-false}
+use Rattle.std.specs.Prelude.{Option as Maybe, Some, None, Result, Ok, Err}
 use Rattle.model.specs.Key.{key_limit, Bytes}
 use Rattle.model.specs.Numbers.{most}
 use Rattle.model.specs.Nibble.{nibble, slot_count, critical, Agree}
@@ -31,33 +32,35 @@ use Rattle.node.specs.declared.child.BranchNo.{BranchNo}
 use Rattle.node.specs.declared.child.Child.{Child as Node}
 use Rattle.node.specs.declared.child.Child.TheVariants.{Leaf, Branch}
 use Rattle.node.specs.declared.child.Link.{Link}
-use Rattle.node.specs.declared.child.Linked.{Linked}
-use Rattle.node.specs.declared.child.Linked.TheVariants.{To, Absent, Wrong}
-use Rattle.trie_spec.specs.Walk.{on_linked, on_node}
+use Rattle.trie_spec.specs.Walk.{on_root, on_node}
 use Rattle.trie_spec.specs.Accepted.{link_to, codes, memory_of}
 use Rattle.trie_spec.proofs.HeldLaws.{Inside}
-use Rattle.audit_tree.specs.Walk.{key_of, tally, none_yet, leaf_seen, stands, head, add_kid, finish, on_counted, kids_seen, seen}
+use Rattle.audit_tree.specs.Walk.{key_of, tally, good, none_yet, leaf_seen, stands, parts_at, head, add_kid, on_first, finish, on_counted, kids_seen, seen}
 use Rattle.audit_tree.specs.declared.tree.Seen.{Seen}
-use Rattle.audit_tree.specs.declared.tree.Seen.TheVariants.{Good, Bad}
 use Rattle.audit_tree.specs.declared.tree.Tally.{Tally}
-use Rattle.audit_tree.specs.declared.tree.Counted.{Counted}
-use Rattle.audit_tree.specs.declared.tree.Counted.TheVariants.{Going, Stop}
 use Rattle.audit_tree.proofs.SlotLaws.{children_rise}
 use Rattle.audit.proofs.Reached.{some_or_none}
 use Rattle.audit.proofs.Bytewise.{bytes_part, Small, children_small, item_back}
+use Rattle.node.specs.declared.NotAStore.{NotAStore}
 
-no_good : {A : Type 0} {n : LeafNo} {l b : ℕ} → Bad ≡ Good n l b → A
+no_good : {A : Type 0} {n : LeafNo} {l b : ℕ} → None ≡ good n l b → A
 no_good e = absurd (let z : ◌≡◌ {A = ℕ} 0 1 = cc in omega arith)
 
 -- the parts of what is good
-good_first : {n m : LeafNo} {l k b c : ℕ} → Good n l b ≡ Good m k c → n ≡ m
-good_first e = cc
+seen_same : {s r : Seen} → Some s ≡ Some r → s ≡ r
+seen_same e = cc
 
-good_leaves : {n m : LeafNo} {l k b c : ℕ} → Good n l b ≡ Good m k c → l ≡ k
-good_leaves e = cc
+first_same : {n m : LeafNo} → Some n ≡ Some m → n ≡ m
+first_same e = cc
 
-good_branches : {n m : LeafNo} {l k b c : ℕ} → Good n l b ≡ Good m k c → b ≡ c
-good_branches e = cc
+good_first : {n m : LeafNo} {l k b c : ℕ} → good n l b ≡ good m k c → n ≡ m
+good_first e = ap (λ (s : Seen). s.first) (seen_same e)
+
+good_leaves : {n m : LeafNo} {l k b c : ℕ} → good n l b ≡ good m k c → l ≡ k
+good_leaves e = ap (λ (s : Seen). s.leaves) (seen_same e)
+
+good_branches : {n m : LeafNo} {l k b c : ℕ} → good n l b ≡ good m k c → b ≡ c
+good_branches e = ap (λ (s : Seen). s.branches) (seen_same e)
 
 starts_less : (a b : ℕ) (t : Tree) → a ≤ b → StartsAt b t → StartsAt a t
 starts_less a b (leaf n k v) h s = tt
@@ -72,41 +75,36 @@ rise_of low high (kid s t ks) r = (r.0, rise_of (suc s) high ks r.2)
 
 record Stands (st : List ℕ) (p s : ℕ) (t : Tally) (n : LeafNo) : Type 0 where
   slot : nibble (key_of st n) p ≡ s
-  beside : t.kids ≢ 0 → critical (key_of st t.first) (key_of st n) ≡ p
-
-or_right : (a b : Bool) → a ≡ false → (a || b) ≡ true → b ≡ true
-or_right true b e h = absurd (let z : ◌≡◌ {A = ℕ} 0 1 = cc in omega arith)
-or_right false b e h = h
+  beside : (m : LeafNo) → t.first ≡ Some m → critical (key_of st m) (key_of st n) ≡ p
 
 stands_says : (st : List ℕ) (p s : ℕ) (t : Tally) (n : LeafNo) → stands st p s t n ≡ true → Stands st p s t n
 unfolding stands
 stands_says st p s t n h =
-    let c : Bool = eqb (critical (key_of st t.first) (key_of st n)) p in
+    let beside = and_right (eqb (nibble (key_of st n) p) s) (parts_at st p t.first n) h in
     record {
-      slot = eqb-true (nibble (key_of st n) p) s (and_left (eqb (nibble (key_of st n) p) s) (eqb t.kids 0 || c) h);
-      beside = λ ne. eqb-true (critical (key_of st t.first) (key_of st n)) p
-          (or_right (eqb t.kids 0) c (ne_eqb t.kids 0 ne) (and_right (eqb (nibble (key_of st n) p) s) (eqb t.kids 0 || c) h));
+      slot = eqb-true (nibble (key_of st n) p) s (and_left (eqb (nibble (key_of st n) p) s) (parts_at st p t.first n) h);
+      beside = λ m e. eqb-true (critical (key_of st m) (key_of st n)) p (rw e at beside);
     }
 
 -- what is known of a child that a tally took
-record Took (st : List ℕ) (p s : ℕ) (t t' : Tally) (r : Seen) : Type 0 where
+record Took (st : List ℕ) (p s : ℕ) (t t' : Tally) (r : Maybe Seen) : Type 0 where
   first : LeafNo
   leaves : ℕ
   branches : ℕ
-  is : r ≡ Good first leaves branches
+  is : r ≡ good first leaves branches
   stood : Stands st p s t first
-  after : t' ≡ tally (t.kids + 1) (head t first) (t.leaves + leaves) (t.branches + branches)
+  after : t' ≡ tally (t.kids + 1) (Some (head t.first first)) (t.leaves + leaves) (t.branches + branches)
 
-took : (st : List ℕ) (p s : ℕ) (t t' : Tally) (r : Seen) → add_kid st p s t r ≡ Going t' → Took st p s t t' r
+took : (st : List ℕ) (p s : ℕ) (t t' : Tally) (r : Maybe Seen) → add_kid st p s t r ≡ Some t' → Took st p s t t' r
 unfolding add_kid
-took st p s t t' Bad h = absurd (let z : ◌≡◌ {A = ℕ} 0 1 = cc in omega arith)
-took st p s t t' (Good n l b) h = go (stands st p s t n) refl h
+took st p s t t' None h = absurd (let z : ◌≡◌ {A = ℕ} 0 1 = cc in omega arith)
+took st p s t t' (Some k) h = go (stands st p s t k.first) refl h
   where
-    go : (x : Bool) → stands st p s t n ≡ x → cond x (Going (tally (t.kids + 1) (head t n) (t.leaves + l) (t.branches + b))) Stop ≡ Going t' → Took st p s t t' (Good n l b)
+    go : (x : Bool) → stands st p s t k.first ≡ x → cond x (Some (tally (t.kids + 1) (Some (head t.first k.first)) (t.leaves + k.leaves) (t.branches + k.branches))) None ≡ Some t' → Took st p s t t' (Some k)
     go false e h = absurd (let z : ◌≡◌ {A = ℕ} 0 1 = cc in omega arith)
     go true e h =
-        let q : t' ≡ tally (t.kids + 1) (head t n) (t.leaves + l) (t.branches + b) = cc in
-        record { first = n; leaves = l; branches = b; is = refl; stood = stands_says st p s t n e; after = q }
+        let q : t' ≡ tally (t.kids + 1) (Some (head t.first k.first)) (t.leaves + k.leaves) (t.branches + k.branches) = cc in
+        record { first = k.first; leaves = k.leaves; branches = k.branches; is = refl; stood = stands_says st p s t k.first e; after = q }
 
 module _ (st : List ℕ) (cap : ℕ) (few : cap ≤ most) (bytes : Bytes st) (fits : start cap ≤ length st) where
   -- a picture that is held below a link, with its first leaf and its counts
@@ -133,11 +131,11 @@ module _ (st : List ℕ) (cap : ℕ) (few : cap ≤ most) (bytes : Bytes st) (fi
   unfolding leaf_in
   key_bytes n = bytes_part st (start n) (key_size (leaf_in st n).size) bytes
 
-  leaf_held : (low budget : ℕ) (l : Link) (m : LeafNo) (n : LeafNo) (lv br : ℕ) → l.child ≡ Leaf m → m.0 < cap → leaf_seen st m l.position budget ≡ Good n lv br → Held low l n lv br
+  leaf_held : (low budget : ℕ) (l : Link) (m : LeafNo) (n : LeafNo) (lv br : ℕ) → l.child ≡ Leaf m → m.0 < cap → leaf_seen st m l.position budget ≡ good n lv br → Held low l n lv br
   unfolding leaf_seen
   leaf_held low budget l m n lv br c h e = go (eqb l.position 0 && (ltb 0 budget && leb (leaf_in st m.0).size key_limit)) refl e
     where
-      go : (x : Bool) → (eqb l.position 0 && (ltb 0 budget && leb (leaf_in st m.0).size key_limit)) ≡ x → cond x (Good m 1 0) Bad ≡ Good n lv br → Held low l n lv br
+      go : (x : Bool) → (eqb l.position 0 && (ltb 0 budget && leb (leaf_in st m.0).size key_limit)) ≡ x → cond x (good m 1 0) None ≡ good n lv br → Held low l n lv br
       go false q e = no_good e
       go true q e =
           let placed : l.position ≡ 0 = eqb-true l.position 0 (and_left (eqb l.position 0) (ltb 0 budget && leb (leaf_in st m.0).size key_limit) q) in
@@ -168,8 +166,8 @@ module _ (st : List ℕ) (cap : ℕ) (few : cap ≤ most) (bytes : Bytes st) (fi
 
   -- ---- the children of a branch at position p
 
-  module _ (p budget : ℕ) (below : ℕ → Link → Seen)
-      (sub : (m : ℕ) (k : Link) (n : LeafNo) (l b : ℕ) → number_in k.child < cap → below m k ≡ Good n l b → Held (p + 1) k n l b) where
+  module _ (p budget : ℕ) (below : ℕ → Link → Maybe Seen)
+      (sub : (m : ℕ) (k : Link) (n : LeafNo) (l b : ℕ) → number_in k.child < cap → below m k ≡ good n l b → Held (p + 1) k n l b) where
     record HeldKids (es : List Entry) (t : Tally) (n : LeafNo) (l b : ℕ) : Type 0 where
       kids : Kids
       items : codes (row kids) ≡ es
@@ -180,15 +178,15 @@ module _ (st : List ℕ) (cap : ℕ) (few : cap ≤ most) (bytes : Bytes st) (fi
       leaves_are : l ≡ t.leaves + tallies (λ m. 1) (λ m q. 0) kids
       branches_are : b ≡ t.branches + tallies (λ m. 0) (λ m q. 1) kids + 1
       enough : 2 ≤ t.kids + count kids
-      first_is : t.kids ≢ 0 → t.first ≡ n
+      first_is : (m : LeafNo) → t.first ≡ Some m → m ≡ n
 
-    kids_end : (t : Tally) (n : LeafNo) (l b : ℕ) → finish t ≡ Good n l b → HeldKids [] t n l b
+    kids_end : (t : Tally) (n : LeafNo) (l b : ℕ) → finish t ≡ good n l b → HeldKids [] t n l b
     unfolding finish
-    kids_end t n l b e = go (ltb t.kids 2) (ltb-false t.kids 2) e
+    kids_end t n l b e = by_first t.first refl e
       where
-        go : (x : Bool) → (x ≡ false → 2 ≤ t.kids) → cond x Bad (Good t.first t.leaves (t.branches + 1)) ≡ Good n l b → HeldKids [] t n l b
-        go true h e = no_good e
-        go false h e =
+        go : (m : LeafNo) → t.first ≡ Some m → (x : Bool) → (x ≡ false → 2 ≤ t.kids) → cond x None (good m t.leaves (t.branches + 1)) ≡ good n l b → HeldKids [] t n l b
+        go m f true h e = no_good e
+        go m f false h e =
             let lv : t.leaves ≡ l = good_leaves e in
             let br : t.branches + 1 ≡ b = good_branches e in
             record {
@@ -201,19 +199,23 @@ module _ (st : List ℕ) (cap : ℕ) (few : cap ≤ most) (bytes : Bytes st) (fi
               leaves_are = omega arith;
               branches_are = omega arith;
               enough = omega (arith, h refl);
-              first_is = λ ne. good_first e;
+              first_is = λ k q. first_same (sym q ∙ f) ∙ good_first e;
             }
 
+        by_first : (o : Maybe LeafNo) → t.first ≡ o → on_first (λ m. cond (ltb t.kids 2) None (good m t.leaves (t.branches + 1))) None o ≡ good n l b → HeldKids [] t n l b
+        by_first None f e = no_good e
+        by_first (Some m) f e = go m f (ltb t.kids 2) (ltb-false t.kids 2) e
+
     -- a child before others
-    with_kid : (e : Entry) (es : List Entry) (t t' : Tally) (k : Link) (n : LeafNo) (l b : ℕ) → e.1 < 16777216 → link_of cap e.1 ≡ To k
+    with_kid : (e : Entry) (es : List Entry) (t t' : Tally) (k : Link) (n : LeafNo) (l b : ℕ) → e.1 < 16777216 → link_of cap e.1 ≡ Ok k
         → Took st p e.0 t t' (below (budget - t.leaves) k) → HeldKids es t' n l b → HeldKids (e ∷ es) t n l b
     with_kid e es t t' k n l b small i w r =
         let u = sub (budget - t.leaves) k w.first w.leaves w.branches (within cap e.1 k i) w.is in
         let more : t'.kids ≡ t.kids + 1 = ap (λ (z : Tally). z.kids) w.after in
         let lv : t'.leaves ≡ t.leaves + w.leaves = ap (λ (z : Tally). z.leaves) w.after in
         let br : t'.branches ≡ t.branches + w.branches = ap (λ (z : Tally). z.branches) w.after in
-        let named : head t w.first ≡ n = sym (ap (λ (z : Tally). z.first) w.after) ∙ r.first_is (λ q. omega arith) in
-        let own : Agree p (key_of st n) (key_of st w.first) = by_first t w.first n named w.stood.beside (ℕ_discrete t.kids 0) in
+        let named : head t.first w.first ≡ n = r.first_is (head t.first w.first) (ap (λ (z : Tally). z.first) w.after) in
+        let own : Agree p (key_of st n) (key_of st w.first) = by_first t.first w.first n named w.stood.beside in
         let item : item_of (link_to (root u.tree)) ≡ e.1 = ap item_of u.link ∙ item_back cap e.1 k small i in
         record {
           kids = kid e.0 u.tree r.kids;
@@ -236,7 +238,7 @@ module _ (st : List ℕ) (cap : ℕ) (few : cap ≤ most) (bytes : Bytes st) (fi
           leaves_are = omega (arith, r.leaves_are, lv, u.leaves_are);
           branches_are = omega (arith, r.branches_are, br, u.branches_are);
           enough = omega (arith, r.enough, more);
-          first_is = λ ne. head_is t w.first ne ∙ named;
+          first_is = λ m f. (rw f at named);
         }
       where
         either : {x y q : ℕ} → (1 ≤ x → q < cap) → (1 ≤ y → q < cap) → (1 ≤ x) ⊎ (x ≡ 0) → 1 ≤ x + y → q < cap
@@ -246,37 +248,30 @@ module _ (st : List ℕ) (cap : ℕ) (few : cap ≤ most) (bytes : Bytes st) (fi
         row_is : (e : Entry) (es : List Entry) (x : ℕ) (xs : List Entry) → x ≡ e.1 → xs ≡ es → (e.0, x) ∷ xs ≡ e ∷ es
         row_is e es x xs a b = rw (a, b)
 
-        head_is : (t : Tally) (m : LeafNo) → t.kids ≢ 0 → t.first ≡ head t m
-        head_is t m ne = rw (ne_eqb t.kids 0 ne)
+        by_first : (o : Maybe LeafNo) (m n : LeafNo) → head o m ≡ n → ((f : LeafNo) → o ≡ Some f → critical (key_of st f) (key_of st m) ≡ p) → Agree p (key_of st n) (key_of st m)
+        by_first None m n q c = rw (← q) (agree_refl p (key_of st m))
+        by_first (Some f) m n q c =
+            subst (λ (z : LeafNo). Agree p (key_of st z) (key_of st m)) q
+            (subst (λ (z : ℕ). Agree z (key_of st f) (key_of st m)) (c f refl) (critical_agree (key_of st f) (key_of st m)))
 
-        by_first : (t : Tally) (m n : LeafNo) → head t m ≡ n → (t.kids ≢ 0 → critical (key_of st t.first) (key_of st m) ≡ p) → Dec (t.kids ≡ 0) → Agree p (key_of st n) (key_of st m)
-        by_first t m n q f (yes z) =
-            let s : m ≡ n = (rw (eq-eqb t.kids 0 z) at q) in
-            rw (← s) (agree_refl p (key_of st m))
-        by_first t m n q f (no ne) =
-            let s : t.first ≡ n = head_is t m ne ∙ q in
-            subst (λ (z : LeafNo). Agree p (key_of st z) (key_of st m)) s
-            (subst (λ (z : ℕ). Agree z (key_of st t.first) (key_of st m)) (f ne) (critical_agree (key_of st t.first) (key_of st m)))
-
-    kids_held : (es : List Entry) (t : Tally) (n : LeafNo) (l b : ℕ) → Small es → kids_seen st cap p budget below es t ≡ Good n l b → HeldKids es t n l b
+    kids_held : (es : List Entry) (t : Tally) (n : LeafNo) (l b : ℕ) → Small es → kids_seen st cap p budget below es t ≡ good n l b → HeldKids es t n l b
     unfolding kids_seen
     kids_held [] t n l b s e = kids_end t n l b e
     kids_held (d ∷ es) t n l b s e = by_link (link_of cap d.1) refl e (λ t' q. kids_held es t' n l b s.1 q)
       where
-        by_count : (k : Link) → link_of cap d.1 ≡ To k → (c : Counted) → add_kid st p d.0 t (below (budget - t.leaves) k) ≡ c
-            → on_counted (λ t'. kids_seen st cap p budget below es t') Bad c ≡ Good n l b
-            → ((t' : Tally) → kids_seen st cap p budget below es t' ≡ Good n l b → HeldKids es t' n l b) → HeldKids (d ∷ es) t n l b
-        by_count k i (Going t') a e rest = with_kid d es t t' k n l b s.0 i (took st p d.0 t t' (below (budget - t.leaves) k) a) (rest t' e)
-        by_count k i Stop a e rest = no_good e
+        by_count : (k : Link) → link_of cap d.1 ≡ Ok k → (c : Maybe Tally) → add_kid st p d.0 t (below (budget - t.leaves) k) ≡ c
+            → on_counted (λ t'. kids_seen st cap p budget below es t') None c ≡ good n l b
+            → ((t' : Tally) → kids_seen st cap p budget below es t' ≡ good n l b → HeldKids es t' n l b) → HeldKids (d ∷ es) t n l b
+        by_count k i (Some t') a e rest = with_kid d es t t' k n l b s.0 i (took st p d.0 t t' (below (budget - t.leaves) k) a) (rest t' e)
+        by_count k i None a e rest = no_good e
 
-        by_link : (r : Linked) → link_of cap d.1 ≡ r
-            → on_linked (λ k. on_counted (λ t'. kids_seen st cap p budget below es t') Bad (add_kid st p d.0 t (below (budget - t.leaves) k))) Bad Bad r ≡ Good n l b
-            → ((t' : Tally) → kids_seen st cap p budget below es t' ≡ Good n l b → HeldKids es t' n l b) → HeldKids (d ∷ es) t n l b
-        by_link (To k) i e rest = by_count k i (add_kid st p d.0 t (below (budget - t.leaves) k)) refl e rest
-        by_link Absent i e rest = no_good e
-        by_link Wrong i e rest = no_good e
+        by_link : (r : Result Link NotAStore) → link_of cap d.1 ≡ r
+            → on_root (λ k. on_counted (λ t'. kids_seen st cap p budget below es t') None (add_kid st p d.0 t (below (budget - t.leaves) k))) None r ≡ good n l b
+            → ((t' : Tally) → kids_seen st cap p budget below es t' ≡ good n l b → HeldKids es t' n l b) → HeldKids (d ∷ es) t n l b
+        by_link (Ok k) i e rest = by_count k i (add_kid st p d.0 t (below (budget - t.leaves) k)) refl e rest
+        by_link (Err z) i e rest = no_good e
 
-    branch_held : (low : ℕ) (b : BranchNo) (n : LeafNo) (l c : ℕ) → b.0 < cap → low ≤ p → kids_seen st cap p budget below (children_in st b.0) none_yet ≡ Good n l c
+    branch_held : (low : ℕ) (b : BranchNo) (n : LeafNo) (l c : ℕ) → b.0 < cap → low ≤ p → kids_seen st cap p budget below (children_in st b.0) none_yet ≡ good n l c
         → Held low (branch_link b.0 p) n l c
     branch_held low b n l c h s e =
         let r = kids_held (children_in st b.0) none_yet n l c (children_small st b.0 bytes) e in
@@ -299,11 +294,11 @@ module _ (st : List ℕ) (cap : ℕ) (few : cap ≤ most) (bytes : Bytes st) (fi
 
   -- ---- a node
 
-  pub seen_held : (f low budget : ℕ) (l : Link) (n : LeafNo) (lv br : ℕ) → number_in l.child < cap → seen st cap f low budget l ≡ Good n lv br → Held low l n lv br
+  pub seen_held : (f low budget : ℕ) (l : Link) (n : LeafNo) (lv br : ℕ) → number_in l.child < cap → seen st cap f low budget l ≡ good n lv br → Held low l n lv br
   unfolding seen
   seen_held zero low budget l n lv br h e = go l.child refl e
     where
-      go : (c : Node) → l.child ≡ c → on_node (λ m. leaf_seen st m l.position budget) (λ b. Bad) c ≡ Good n lv br → Held low l n lv br
+      go : (c : Node) → l.child ≡ c → on_node (λ m. leaf_seen st m l.position budget) (λ b. None) c ≡ good n lv br → Held low l n lv br
       go (Leaf m) i e = leaf_held low budget l m n lv br i (rw i at h) e
       go (Branch b) i e = no_good e
   seen_held (suc f) low budget l n lv br h e = go l.child refl e (λ m k n' l' b i q. seen_held f (l.position + 1) m k n' l' b i q)
@@ -312,8 +307,8 @@ module _ (st : List ℕ) (cap : ℕ) (few : cap ≤ most) (bytes : Bytes st) (fi
       branched b i = let a : Branch b ≡ l.child = sym i in rw a
 
       at_branch : (b : BranchNo) → l.child ≡ Branch b → (x : Bool) → (x ≡ false → low ≤ l.position)
-          → cond x Bad (kids_seen st cap l.position budget (λ m k. seen st cap f (l.position + 1) m k) (children_in st b.0) none_yet) ≡ Good n lv br
-          → ((m : ℕ) (k : Link) (n : LeafNo) (l' b : ℕ) → number_in k.child < cap → seen st cap f (l.position + 1) m k ≡ Good n l' b → Held (l.position + 1) k n l' b)
+          → cond x None (kids_seen st cap l.position budget (λ m k. seen st cap f (l.position + 1) m k) (children_in st b.0) none_yet) ≡ good n lv br
+          → ((m : ℕ) (k : Link) (n : LeafNo) (l' b : ℕ) → number_in k.child < cap → seen st cap f (l.position + 1) m k ≡ good n l' b → Held (l.position + 1) k n l' b)
           → Held low l n lv br
       at_branch b i true s e sub = no_good e
       at_branch b i false s e sub =
@@ -322,8 +317,8 @@ module _ (st : List ℕ) (cap : ℕ) (few : cap ≤ most) (bytes : Bytes st) (fi
 
       go : (c : Node) → l.child ≡ c
           → on_node (λ m. leaf_seen st m l.position budget)
-          (λ b. cond (ltb l.position low) Bad (kids_seen st cap l.position budget (λ m k. seen st cap f (l.position + 1) m k) (children_in st b.0) none_yet)) c ≡ Good n lv br
-          → ((m : ℕ) (k : Link) (n : LeafNo) (l' b : ℕ) → number_in k.child < cap → seen st cap f (l.position + 1) m k ≡ Good n l' b → Held (l.position + 1) k n l' b)
+          (λ b. cond (ltb l.position low) None (kids_seen st cap l.position budget (λ m k. seen st cap f (l.position + 1) m k) (children_in st b.0) none_yet)) c ≡ good n lv br
+          → ((m : ℕ) (k : Link) (n : LeafNo) (l' b : ℕ) → number_in k.child < cap → seen st cap f (l.position + 1) m k ≡ good n l' b → Held (l.position + 1) k n l' b)
           → Held low l n lv br
       go (Leaf m) i e sub = leaf_held low budget l m n lv br i (rw i at h) e
       go (Branch b) i e sub = at_branch b i (ltb l.position low) (ltb-false l.position low) e sub

@@ -10,6 +10,7 @@ use lib.ListN.{length, get_or}
 use borrow.Author.Tests.{eq-eqb, ne_eqb, eqb-true}
 use mir.Syntax.{w8}
 use mir.Val.{Fits}
+use Rattle.std.specs.Prelude.{Option as Maybe, Some, None}
 use Rattle.model.specs.Key.{Bytes}
 use Rattle.model.specs.Numbers.{most}
 use Rattle.model.specs.Picture.{Tree, Picture, Pictured}
@@ -29,19 +30,15 @@ use Rattle.node.proofs.ChildLaws.{within}
 use Rattle.node.proofs.HeaderLaws.{Right, and_left, and_right, good_right, blocks_fit, few}
 use Rattle.node.specs.declared.child.LeafNo.{LeafNo}
 use Rattle.node.specs.declared.child.Link.{Link}
-use Rattle.node.specs.declared.child.Linked.{Linked}
-use Rattle.node.specs.declared.child.Linked.TheVariants.{To, Absent, Wrong}
 use Rattle.node.specs.declared.header.Header.{Header}
-use Rattle.node.specs.declared.header.Head.{Head}
-use Rattle.node.specs.declared.header.Head.TheVariants.{Good as GoodHead, Bad as BadHead}
-use Rattle.trie_spec.specs.Walk.{steps, on_linked}
+use Rattle.node.specs.declared.NotAStore.{NotAStore}
+use Rattle.std.specs.Prelude.{Result, Ok, Err}
+use Rattle.trie_spec.specs.Walk.{steps, on_root}
 use Rattle.trie_spec.specs.Accepted.{memory_of, leaf_uses, branch_uses, Rooted, Kept, Accepted}
 use Rattle.trie_spec.proofs.HeldLaws.{bytes_of, Inside, link_back}
 use Rattle.audit_tree.specs.Walk.{seen, counts_right, tree_right}
 use Rattle.audit_tree.specs.Accepts.{chain_right, kept_right, records_right, on_head, accepts_in}
-use Rattle.audit.specs.declared.Checked.TheVariants.{Done, Store}
 use Rattle.audit_tree.specs.declared.tree.Seen.{Seen}
-use Rattle.audit_tree.specs.declared.tree.Seen.TheVariants.{Good, Bad}
 use Rattle.audit.proofs.Chained.{right_chain, chain_right_lem}
 use Rattle.audit.proofs.Bytewise.{bytes_get, item_back}
 use Rattle.audit.proofs.Reached.{leaf_once, leaf_apart, branch_once, branch_apart}
@@ -126,7 +123,7 @@ module _ (st : List ℕ) (right : Right st (head_in st)) where
   }
 
   module _ (bytes : Bytes st) where
-    told_some : (l : Link) (n : LeafNo) (lv br : ℕ) → link_of cap h.root ≡ To l → Held st cap few_records bytes room 0 l n lv br → lv ≡ h.leaves → br ≡ h.branches
+    told_some : (l : Link) (n : LeafNo) (lv br : ℕ) → link_of cap h.root ≡ Ok l → Held st cap few_records bytes room 0 l n lv br → lv ≡ h.leaves → br ≡ h.branches
         → (o : Option Tree) × Told o
     told_some l n lv br e u el eb =
         let t : Tree = u.tree in
@@ -156,23 +153,22 @@ module _ (st : List ℕ) (right : Right st (head_in st)) where
     unfolding tree_right counts_right
     tree_told e = by_leaves (eqb h.leaves 0) (eqb-true h.leaves 0) e
       where
-        by_seen : (l : Link) → link_of cap h.root ≡ To l → (s : Seen) → seen st cap steps 0 h.leaves l ≡ s → counts_right h.leaves h.branches s ≡ true → (o : Option Tree) × Told o
-        by_seen l i Bad q e = no_true e
-        by_seen l i (Good n lv br) q e =
-            told_some l n lv br i
-            (seen_held st cap few_records bytes room steps 0 h.leaves l n lv br (within cap h.root l i) q)
-            (eqb-true lv h.leaves (and_left (eqb lv h.leaves) (eqb br h.branches) e))
-            (eqb-true br h.branches (and_right (eqb lv h.leaves) (eqb br h.branches) e))
+        by_seen : (l : Link) → link_of cap h.root ≡ Ok l → (s : Maybe Seen) → seen st cap steps 0 h.leaves l ≡ s → counts_right h.leaves h.branches s ≡ true → (o : Option Tree) × Told o
+        by_seen l i None q e = no_true e
+        by_seen l i (Some s) q e =
+            told_some l s.first s.leaves s.branches i
+            (seen_held st cap few_records bytes room steps 0 h.leaves l s.first s.leaves s.branches (within cap h.root l i) q)
+            (eqb-true s.leaves h.leaves (and_left (eqb s.leaves h.leaves) (eqb s.branches h.branches) e))
+            (eqb-true s.branches h.branches (and_right (eqb s.leaves h.leaves) (eqb s.branches h.branches) e))
 
-        by_link : (r : Linked) → link_of cap h.root ≡ r
-            → on_linked (λ l. counts_right h.leaves h.branches (seen st cap steps 0 h.leaves l)) false false r ≡ true → (o : Option Tree) × Told o
-        by_link (To l) i e = by_seen l i (seen st cap steps 0 h.leaves l) refl e
-        by_link Absent i e = no_true e
-        by_link Wrong i e = no_true e
+        by_link : (r : Result Link NotAStore) → link_of cap h.root ≡ r
+            → on_root (λ l. counts_right h.leaves h.branches (seen st cap steps 0 h.leaves l)) false r ≡ true → (o : Option Tree) × Told o
+        by_link (Ok l) i e = by_seen l i (seen st cap steps 0 h.leaves l) refl e
+        by_link (Err z) i e = no_true e
 
         by_leaves : (x : Bool) → (x ≡ true → h.leaves ≡ 0)
             → cond x (eqb h.root no_root && eqb h.branches 0)
-            (on_linked (λ l. counts_right h.leaves h.branches (seen st cap steps 0 h.leaves l)) false false (link_of cap h.root)) ≡ true
+            (on_root (λ l. counts_right h.leaves h.branches (seen st cap steps 0 h.leaves l)) false (link_of cap h.root)) ≡ true
             → (o : Option Tree) × Told o
         by_leaves true z e = (
           none,
@@ -183,7 +179,7 @@ module _ (st : List ℕ) (right : Right st (head_in st)) where
         )
         by_leaves false z e = by_link (link_of cap h.root) refl e
 
-    records_told : records_right st h ≡ true → head_of st ≡ GoodHead h → (o : Option Tree) × Accepted st o
+    records_told : records_right st h ≡ true → head_of st ≡ Ok h → (o : Option Tree) × Accepted st o
     unfolding records_right
     records_told e g =
         let tree : Bool = tree_right st cap h.leaves h.branches h.root in
@@ -244,11 +240,11 @@ pub accepts_accepted : (st : List ℕ) → ((i : ℕ) → Fits w8 (get_or st i 0
 unfolding accepts_in
 accepts_accepted st f e = go (head_of st) refl e
   where
-    go : (r : Head) → head_of st ≡ r → on_head (records_right st) r ≡ true → (o : Option Tree) × Accepted st o
-    go BadHead q e = no_true e
-    go (GoodHead h) q e =
+    go : (r : Result Header NotAStore) → head_of st ≡ r → on_head (records_right st) r ≡ true → (o : Option Tree) × Accepted st o
+    go (Err x) q e = no_true e
+    go (Ok h) q e =
         let i : h ≡ head_in st = (good_right st h q).is in
-        let g : head_of st ≡ GoodHead (head_in st) = q ∙ ap GoodHead i in
+        let g : head_of st ≡ Ok (head_in st) = q ∙ ap Ok i in
         records_told st (good_right st (head_in st) g) (bytes_of st f) (subst (λ (z : Header). records_right st z ≡ true) i e) g
 
 pub accepted_accepts : (st : List ℕ) (o : Option Tree) → Accepted st o → accepts_in st ≡ true
@@ -256,5 +252,5 @@ unfolding accepts_in
 accepted_accepts st o a = rw a.head (told_records st (good_right st (head_in st) a.head) o a)
 
 -- STORE is not done.
-pub not_done : {A : Type 0} → Store ≡ Done → A
+pub not_done : {A : Type 0} {e : NotAStore} {u : Unit {0}} → ◌≡◌ {A = Result (Unit {0}) NotAStore} (Err e) (Ok u) → A
 not_done e = absurd (let z : ◌≡◌ {A = ℕ} 0 1 = cc in omega arith)

@@ -1,52 +1,27 @@
-// The chains of free records: from the header's first one on, for as many steps as records are not in use, each a free record of the store, and then the end
-// mark. A chain that ends after so many steps meets no record twice, so no mark is kept of those met.
-ghost use Rattle.std.specs.Prelude.{◌≡◌, ◌≤◌, ◌-◌, length};
+// The chain of the free records of a kind: from the header's first one on, for as many steps as records are not in use, each a free record of the store, and
+// then the end mark. A chain that ends after so many steps meets no record twice, so no mark is kept of those met.
+ghost use Rattle.std.specs.Prelude.{◌≡◌, ◌≤◌, length};
 ghost use Rattle.node.specs.Layout.{start};
-ghost use Rattle.records.specs.Chain.{leaves, branches};
-ghost use Rattle.audit_tree.specs.Accepts.{chain_right};
+ghost use Rattle.audit_tree.specs.Accepts.{kept_right};
 
-use node::child::{BranchNo, LeafNo};
+use node::header::Header;
 use node::layout::LAST;
-use records::chain::{is_free_branch, is_free_leaf, next_branch, next_leaf};
+use records::chain::Record;
 
-// The chain of the leaves that are not in use.
-pub fn leaves_free(store: &[u8], capacity: u16, first: u16, used: u16) -> bool
-    requires { start capacity ≤ length store.now }
-    ensures { result ≡ chain_right leaves store.now capacity (capacity - used) first }
+pub fn chain_free<R: Record>(store: &[u8], h: Header) -> bool
+    requires { start h.capacity ≤ length store.now }
+    ensures { result ≡ kept_right R.kind store.now h }
 {
-    let mut at = first;
-    let mut met = used;
-    while met < capacity {
-        if capacity <= at {
+    let (mut at, used) = R::head(h);
+    for _ in used..h.capacity {
+        if h.capacity <= at {
             return false;
         }
-        if is_free_leaf(store, LeafNo(at)) {
-            at = next_leaf(store, LeafNo(at));
-            met += 1;
-        } else {
+        let record = R::numbered(at);
+        if !record.is_free(store) {
             return false;
         }
-    }
-    at == LAST
-}
-
-// The chain of the branches that are not in use.
-pub fn branches_free(store: &[u8], capacity: u16, first: u16, used: u16) -> bool
-    requires { start capacity ≤ length store.now }
-    ensures { result ≡ chain_right branches store.now capacity (capacity - used) first }
-{
-    let mut at = first;
-    let mut met = used;
-    while met < capacity {
-        if capacity <= at {
-            return false;
-        }
-        if is_free_branch(store, BranchNo(at)) {
-            at = next_branch(store, BranchNo(at));
-            met += 1;
-        } else {
-            return false;
-        }
+        at = record.next(store);
     }
     at == LAST
 }

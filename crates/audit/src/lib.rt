@@ -8,54 +8,48 @@
 
 pub mod free;
 
-ghost use Rattle.std.specs.Prelude.{◌≡◌, ◌≤◌, length};
+ghost use Rattle.std.specs.Prelude.{◌≡◌, ◌≤◌, length, Ok};
 ghost use Rattle.std.proofs.Math.Option.{Option};
 ghost use Rattle.model.specs.Picture.{Tree};
 ghost use Rattle.node.specs.Layout.{start};
 ghost use Rattle.trie_spec.specs.Accepted.{Accepted};
 ghost use Rattle.audit_tree.specs.Accepts.{records_right, accepts_in};
 
-use crate::free::{branches_free, leaves_free};
+use crate::free::chain_free;
 use audit_tree::tree::tree_right;
-use node::header::{Head, Header, read_head};
-
-#[derive(Clone, Copy)]
-pub enum Checked {
-    Done,
-    Store,
-}
+use node::NotAStore;
+use node::child::{BranchNo, LeafNo};
+use node::header::{Header, read_head};
 
 // The tree and the chains, in a store whose header is h.
+#[tactic(auto, unfolding(audit_tree::specs::Accepts::records_right))]
 fn records_right(store: &[u8], h: Header) -> bool
     requires { start h.capacity ≤ length store.now }
     ensures { result ≡ records_right store.now h }
 {
-    if tree_right(store, h.capacity, h.leaves, h.branches, h.root) {
-        if leaves_free(store, h.capacity, h.leaf, h.leaves) {
-            return branches_free(store, h.capacity, h.branch, h.branches);
-        }
-    }
-    false
+    tree_right(store, h.capacity, h.leaves, h.branches, h.root)
+        && chain_free::<LeafNo>(store, h)
+        && chain_free::<BranchNo>(store, h)
 }
 
 // Whether the store is accepted, by its bytes.
 fn accepts(store: &[u8]) -> bool
     ensures { result ≡ accepts_in store.now }
 {
-    let Head::Good(h) = read_head(store) else {
+    let Ok(h) = read_head(store) else {
         return false;
     };
     records_right(store, h)
 }
 
 // "The check answers done exactly for these and STORE for all others".
-pub fn check(store: &[u8]) -> Checked
-    ensures sound { result ≡ Checked.Done → (o : Option Tree) × Accepted store.now o }
-    ensures complete { (o : Option Tree) → Accepted store.now o → result ≡ Checked.Done }
+pub fn check(store: &[u8]) -> Result<(), NotAStore>
+    ensures sound { result ≡ Ok tt → (o : Option Tree) × Accepted store.now o }
+    ensures complete { (o : Option Tree) → Accepted store.now o → result ≡ Ok tt }
 {
     if accepts(store) {
-        Checked::Done
+        Ok(())
     } else {
-        Checked::Store
+        Err(NotAStore)
     }
 }

@@ -1,12 +1,11 @@
 -- The check of a store over its bytes, on any bytes: the header, the tree and both chains of free records.
 -- Assumes nothing.
-use Rattle.std.specs.Prelude.{ℕ, zero, suc, ◌-◌, Bool, false, ◌&&◌, List, ltb, eqb}
+use Rattle.std.specs.Prelude.{ℕ, zero, suc, ◌-◌, Bool, false, ◌&&◌, List, ltb, eqb, Result, Ok, Err}
 use Rattle.node.specs.Layout.{last}
 use Rattle.node.specs.Header.{head_of}
 use Rattle.records.specs.Chain.{Kind, leaves, branches}
 use Rattle.node.specs.declared.header.Header.{Header}
-use Rattle.node.specs.declared.header.Head.{Head}
-use Rattle.node.specs.declared.header.Head.TheVariants.{Good, Bad}
+use Rattle.node.specs.declared.NotAStore.{NotAStore}
 use Rattle.audit_tree.specs.Walk.{tree_right}
 
 -- From x on go so many free records of the store, and then the end mark.
@@ -21,9 +20,9 @@ kept_right K st h = chain_right K st h.capacity (h.capacity - K.used h) (K.first
 unfoldable pub records_right : List ℕ → Header → Bool
 records_right st h = tree_right st h.capacity h.leaves h.branches h.root && (kept_right leaves st h && kept_right branches st h)
 
-abbrev pub on_head : (Header → Bool) → Head → Bool
-on_head f (Good h) = f h
-on_head f Bad = false
+abbrev pub on_head : (Header → Bool) → Result Header NotAStore → Bool
+on_head f (Ok h) = f h
+on_head f (Err e) = false
 
 unfoldable pub accepts_in : List ℕ → Bool
 accepts_in st = on_head (records_right st) (head_of st)

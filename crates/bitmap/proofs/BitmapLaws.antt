@@ -21,9 +21,6 @@ bit k = 1 * 2 ^ k % 4294967296
 pub bit_is : (k : ℕ) → k ≤ 16 → bit k ≡ 2 ^ k
 bit_is k h = shl_exact 1 k 32 (omega arith) (omega arith) ∙ one-mul (2 ^ k)
 
-pub bit_pos : (k : ℕ) → k ≤ 16 → 0 < bit k
-bit_pos k h = rw (bit_is k h) (pow_pos k)
-
 tested : (r p : ℕ) → r < 2 → 0 < p → not (eqb (r * p) 0) ≡ is_one r
 tested zero p h l = rw zero-mul
 tested (suc zero) p h l = rw (one-mul, ne_eqb p 0 (λ e. omega arith))

@@ -12,11 +12,7 @@ ghost use Rattle.index_spec.specs.Calls.{create_call, empty_call, limit_call, in
 ghost use Rattle.index_spec.specs.Pages.{first_call, next_call};
 ghost use Rattle.numbers.specs.Handed.{bare, valued, told, paged, mode_named, replied};
 
-use numbers::numbers::{
-    changed_number, check_number, create_number, empty_number, found_empty, found_value,
-    get_number, insert_number, limit_number, mode_named, page_bytes, page_end, page_entries,
-    page_number,
-};
+use numbers::numbers::{found_empty, found_page, found_value, insert_number, mode_named, number};
 
 // A new, empty store in the bytes lent.
 #[unsafe(no_mangle)]
@@ -24,7 +20,7 @@ pub extern "C" fn ponybollard_create(store: &mut [u8], limit: u16) -> u32
     ensures promise { Create layout limit store.old store.new (bare result) }
     ensures is { Did (replied create_reply (create_call limit store.old)) (bare result) store.new }
 {
-    create_number(index::create::create(store, limit))
+    number(index::create::create(store, limit))
 }
 
 // Whether the bytes are a store that the calls keep.
@@ -32,7 +28,7 @@ pub extern "C" fn ponybollard_create(store: &mut [u8], limit: u16) -> u32
 pub extern "C" fn ponybollard_check(store: &[u8]) -> u32
     ensures { Check layout store.now (bare result) }
 {
-    check_number(index::check::check(store))
+    number(index::check::check(store))
 }
 
 // Whether the store has no key.
@@ -43,7 +39,7 @@ pub extern "C" fn ponybollard_is_empty(store: &[u8], empty: &mut bool) -> u32
 {
     let found = index::is_empty::is_empty(store);
     *empty = found_empty(found);
-    empty_number(found)
+    number(found)
 }
 
 // Another height limit.
@@ -52,7 +48,7 @@ pub extern "C" fn ponybollard_set_limit(store: &mut [u8], limit: u16) -> u32
     ensures promise { SetLimit layout limit store.old store.new (bare result) }
     ensures is { Did (replied limit_reply (limit_call limit store.old)) (bare result) store.new }
 {
-    limit_number(index::set_limit::set_limit(store, limit))
+    number(index::set_limit::set_limit(store, limit))
 }
 
 // A key goes in with its value; a stored key gets the new value.
@@ -72,7 +68,7 @@ pub extern "C" fn ponybollard_get(store: &[u8], key: &[u8], value: &mut u32) -> 
 {
     let got = index::get::get(store, key);
     *value = found_value(got);
-    get_number(got)
+    number(got)
 }
 
 // A stored key gets another value.
@@ -81,7 +77,7 @@ pub extern "C" fn ponybollard_overwrite(store: &mut [u8], key: &[u8], value: u32
     ensures promise { Overwrite layout key.now value store.old store.new (bare result) }
     ensures is { Did (replied changed_reply (overwrite_call key.now value store.old)) (bare result) store.new }
 {
-    changed_number(index::overwrite::overwrite(store, key, value))
+    number(index::overwrite::overwrite(store, key, value))
 }
 
 // A stored key is taken out.
@@ -90,7 +86,7 @@ pub extern "C" fn ponybollard_remove(store: &mut [u8], key: &[u8]) -> u32
     ensures promise { Remove layout key.now store.old store.new (bare result) }
     ensures is { Did (replied changed_reply (remove_call key.now store.old)) (bare result) store.new }
 {
-    changed_number(index::remove::remove(store, key))
+    number(index::remove::remove(store, key))
 }
 
 // The first page of a listing.
@@ -109,10 +105,11 @@ pub extern "C" fn ponybollard_first_page(
     ensures is { Did (replied page_reply (first_call prefix.now (mode_named inclusive) size store.now out.old)) (paged result entries.new bytes.new end.new) out.new }
 {
     let page = index::pages::first_page(store, prefix, mode_named(inclusive), size, out);
-    *entries = page_entries(page);
-    *bytes = page_bytes(page);
-    *end = page_end(page);
-    page_number(page)
+    let found = found_page(page);
+    *entries = found.entries;
+    *bytes = found.bytes;
+    *end = found.end;
+    number(page)
 }
 
 // The page after a key.
@@ -132,8 +129,9 @@ pub extern "C" fn ponybollard_next_page(
     ensures is { Did (replied page_reply (next_call prefix.now (mode_named inclusive) after.now size store.now out.old)) (paged result entries.new bytes.new end.new) out.new }
 {
     let page = index::pages::next_page(store, prefix, mode_named(inclusive), after, size, out);
-    *entries = page_entries(page);
-    *bytes = page_bytes(page);
-    *end = page_end(page);
-    page_number(page)
+    let found = found_page(page);
+    *entries = found.entries;
+    *bytes = found.bytes;
+    *end = found.end;
+    number(page)
 }

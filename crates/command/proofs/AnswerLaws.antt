@@ -1,7 +1,7 @@
 -- From the promises of the calls to the promise of an answered line, over any layout.
 -- Assumes nothing.
 use Prim.Native.Nat.{ℕ}
-use mathlib.Core.Path.{◌≡◌, refl, sym, ap, subst, ◌∙◌}
+use mathlib.Core.Path.{◌≡◌, refl, ap, subst, ◌∙◌}
 use mathlib.Core.List.{List}
 use Rattle.promises.specs.Meaning.{Layout, Reply}
 use Rattle.promises.specs.Promises.{Insert, Get, Remove}
@@ -9,37 +9,38 @@ use Rattle.line.specs.Line.{command, insert, get, delete}
 use Rattle.line.specs.Answer.{answer_text, insert_answer, get_answer, remove_answer, answer_line, answer_command}
 use Rattle.line.specs.Code.{Wrote}
 use Rattle.line.specs.declared.writing.Answer.{Answer}
-use Rattle.index_spec.specs.declared.insert.Inserted.{Inserted}
-use Rattle.index_spec.specs.declared.get.Got.{Got}
-use Rattle.index_spec.specs.declared.changed.Changed.{Changed}
+use Rattle.std.specs.Prelude.{Result, Ok, Err}
+use Rattle.trie_spec.specs.declared.insert.Inserted.{Inserted}
+use Rattle.index_spec.specs.declared.insert.InsertError.{InsertError}
+use Rattle.index_spec.specs.declared.stored.LookupError.{LookupError}
 use Rattle.index_spec.specs.Replies.{insert_reply, get_reply, changed_reply}
 use Rattle.listings.specs.Answered.{insert_told, get_told, remove_told, Answered}
 
-insert_told_lem : (q : Inserted) → insert_told q ≡ insert_answer (insert_reply q).answer
-insert_told_lem Inserted.New = refl
-insert_told_lem Inserted.Replaced = refl
-insert_told_lem Inserted.Store = refl
-insert_told_lem Inserted.Key = refl
-insert_told_lem Inserted.Height = refl
-insert_told_lem Inserted.Full = refl
+insert_told_lem : (q : Result Inserted InsertError) → insert_told q ≡ insert_answer (insert_reply q).answer
+insert_told_lem (Ok Inserted.New) = refl
+insert_told_lem (Ok Inserted.Replaced) = refl
+insert_told_lem (Err InsertError.Store) = refl
+insert_told_lem (Err InsertError.Key) = refl
+insert_told_lem (Err InsertError.Height) = refl
+insert_told_lem (Err InsertError.Full) = refl
 
-get_told_lem : (q : Got) → get_told q ≡ get_answer (get_reply q)
-get_told_lem (Got.Value v) = refl
-get_told_lem Got.Store = refl
-get_told_lem Got.Key = refl
-get_told_lem Got.Absent = refl
+get_told_lem : (q : Result ℕ LookupError) → get_told q ≡ get_answer (get_reply q)
+get_told_lem (Ok v) = refl
+get_told_lem (Err LookupError.Store) = refl
+get_told_lem (Err LookupError.Key) = refl
+get_told_lem (Err LookupError.Absent) = refl
 
-remove_told_lem : (q : Changed) → remove_told q ≡ remove_answer (changed_reply q).answer
-remove_told_lem Changed.Done = refl
-remove_told_lem Changed.Store = refl
-remove_told_lem Changed.Key = refl
-remove_told_lem Changed.Absent = refl
+remove_told_lem : (q : Result (Unit {0}) LookupError) → remove_told q ≡ remove_answer (changed_reply q).answer
+remove_told_lem (Ok u) = refl
+remove_told_lem (Err LookupError.Store) = refl
+remove_told_lem (Err LookupError.Key) = refl
+remove_told_lem (Err LookupError.Absent) = refl
 
 told_as : {a b : Answer} {out out' : List ℕ} {n : ℕ} → Wrote (answer_text a) out out' n → a ≡ b → Wrote (answer_text b) out out' n
 told_as {out = out} {out' = out'} {n = n} w e = subst (λ (b : Answer). Wrote (answer_text b) out out' n) e w
 
 module _ (L : Layout) (k : List ℕ) {st out out' : List ℕ} {a : Answer} {n : ℕ} (w : Wrote (answer_text a) out out' n) where
-  pub insert_answered : (v : ℕ) {st' : List ℕ} (q : Inserted) → Insert L k v st st' (insert_reply q) → a ≡ insert_told q → Answered L (command (insert k v)) st st' out out' n
+  pub insert_answered : (v : ℕ) {st' : List ℕ} (q : Result Inserted InsertError) → Insert L k v st st' (insert_reply q) → a ≡ insert_told q → Answered L (command (insert k v)) st st' out out' n
   unfolding answer_line answer_command
   insert_answered v q p e = record {
     within = w.within;
@@ -47,17 +48,14 @@ module _ (L : Layout) (k : List ℕ) {st out out' : List ℕ} {a : Answer} {n : 
     after = λ m h. p.after m h;
   }
 
-  pub get_answered : (q : Got) → Get L k st (get_reply q) → a ≡ get_told q → Answered L (command (get k)) st st out out' n
+  pub get_answered : (q : Result ℕ LookupError) → Get L k st (get_reply q) → a ≡ get_told q → Answered L (command (get k)) st st out out' n
   unfolding answer_line answer_command
   get_answered q p e = record { within = w.within; wrote = λ m h. told_as w (e ∙ get_told_lem q ∙ ap get_answer (p.answers m h)); after = λ m h. h }
 
-  pub delete_answered : {st' : List ℕ} (q : Changed) → Remove L k st st' (changed_reply q) → a ≡ remove_told q → Answered L (command (delete k)) st st' out out' n
+  pub delete_answered : {st' : List ℕ} (q : Result (Unit {0}) LookupError) → Remove L k st st' (changed_reply q) → a ≡ remove_told q → Answered L (command (delete k)) st st' out out' n
   unfolding answer_line answer_command
   delete_answered q p e = record {
     within = w.within;
     wrote = λ m h. told_as w (e ∙ remove_told_lem q ∙ ap (λ (r : Reply). remove_answer r.answer) (p.answers m h));
     after = λ m h. p.after m h;
   }
-
-pub value_told : (q : Got) (v : ℕ) → q ≡ Got.Value v → Answer.Value v ≡ get_told q
-value_told q v e = ap get_told (sym e)

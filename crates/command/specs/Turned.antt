@@ -7,7 +7,7 @@ use Rattle.index_spec.specs.Layout.{layout}
 use Rattle.line.specs.Line.{line_limit}
 use Rattle.line.specs.Answer.{answer_line}
 use Rattle.line.specs.Run.{held_line, Taken, more, ended, take_line, finish}
-use Rattle.line.specs.Code.{held_in, Wrote}
+use Rattle.line.specs.Code.{held_size, held_in, Wrote}
 use Rattle.command.specs.declared.turns.Turn.{Turn}
 
 -- The bytes answered, what is held of the present line, the store's meaning, and the rest of the piece.
@@ -29,7 +29,7 @@ turn_of h piece m = gave (take_line h piece) m
 pub record Turned (h : Option (List ℕ)) (piece line' st st' out out' : List ℕ) (r : Turn) : Type 0 where
   pub within : r.used ≤ length piece
   pub moves : 1 ≤ length piece → 1 ≤ r.used
-  pub fits : r.held.count ≤ line_limit
+  pub fits : held_size r.held ≤ line_limit
   pub room : r.bytes ≤ length out
   pub held : (m : Meaning) → held_in r.held line' ≡ (turn_of h piece m).held
   pub rest : (m : Meaning) → drop r.used piece ≡ (turn_of h piece m).rest

@@ -1,46 +1,51 @@
-// Insertion, lookup and deletion carried out on a store, and the answer's line written.
+// Insertion, lookup and deletion carried out on a store, and the answer's line written. Answers and errors are of other crates, so that no `From` can be
+// written for them here. Output goes at the start of a lent slice, and its length comes back, as in `line`.
 ghost use Rattle.std.specs.Prelude.{◌≡◌, ◌≤◌, length};
 ghost use Rattle.index_spec.specs.Layout.{layout};
 ghost use Rattle.line.specs.Line;
-ghost use Rattle.listings.specs.Answered.{insert_told, get_told, remove_told, Answered};
+ghost use Rattle.listings.specs.Answered.{insert_told, refused_told, get_told, remove_told, Answered};
 
-use index::changed::Changed;
-use index::get::Got;
-use index::insert::Inserted;
+use index::get::LookupError;
+use index::insert::{InsertError, Inserted};
 use line::writing::{Answer, put_answer};
 
-fn told_insert(r: Inserted) -> Answer
+fn told_insert(r: Result<Inserted, InsertError>) -> Answer
     ensures { result ≡ insert_told r }
 {
     match r {
-        Inserted::New => Answer::New,
-        Inserted::Replaced => Answer::Replaced,
-        Inserted::Store => Answer::Key,
-        Inserted::Key => Answer::Key,
-        Inserted::Height => Answer::Height,
-        Inserted::Full => Answer::Full,
+        Ok(Inserted::New) => Answer::New,
+        Ok(Inserted::Replaced) => Answer::Replaced,
+        Err(InsertError::Store | InsertError::Key) => Answer::Key,
+        Err(InsertError::Height) => Answer::Height,
+        Err(InsertError::Full) => Answer::Full,
     }
 }
 
-fn told_get(r: Got) -> Answer
+// What a call for a stored key that is refused is told as.
+fn told_refused(e: LookupError) -> Answer
+    ensures { result ≡ refused_told e }
+{
+    match e {
+        LookupError::Store | LookupError::Key => Answer::Key,
+        LookupError::Absent => Answer::Absent,
+    }
+}
+
+fn told_get(r: Result<u32, LookupError>) -> Answer
     ensures { result ≡ get_told r }
 {
     match r {
-        Got::Value(v) => Answer::Value(v),
-        Got::Store => Answer::Key,
-        Got::Key => Answer::Key,
-        Got::Absent => Answer::Absent,
+        Ok(v) => Answer::Value(v),
+        Err(e) => told_refused(e),
     }
 }
 
-fn told_remove(r: Changed) -> Answer
+fn told_remove(r: Result<(), LookupError>) -> Answer
     ensures { result ≡ remove_told r }
 {
     match r {
-        Changed::Done => Answer::Removed,
-        Changed::Store => Answer::Key,
-        Changed::Key => Answer::Key,
-        Changed::Absent => Answer::Absent,
+        Ok(()) => Answer::Removed,
+        Err(e) => told_refused(e),
     }
 }
 

@@ -1,4 +1,3 @@
 pub mod PartLaws
 pub mod NumberLaws
 pub mod CommonLaws
-pub mod MoveLaws

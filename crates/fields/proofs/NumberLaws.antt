@@ -1,20 +1,22 @@
 -- Numbers in bytes: what is written is read back, a number that lies apart from a write is as it was, a number of a part is one of the whole.
 -- Each law holds for every width and place, and for both orders of the bytes. Assumes nothing.
 use mathlib.Core.Path.{◌≡◌, refl, sym, ap, ap₂, ◌∙◌}
-use mathlib.Core.List.{List, [], ◌∷◌, reverse, reverse-reverse}
+use mathlib.Core.List.{List, [], ◌∷◌, ◌++◌, reverse, reverse-reverse}
 use mathlib.Core.Logic.{⊎_elim}
-use Prim.Native.Nat.{ℕ, zero, suc, ◌+◌, ◌*◌, ◌/◌, ◌%◌, ◌^◌, ◌≤◌, ◌<◌}
+use Prim.Native.Nat.{ℕ, zero, suc, ◌+◌, ◌-◌, ◌*◌, ◌/◌, ◌%◌, ◌^◌, ◌≤◌, ◌<◌}
 use native.Mathlib.Nat.{pow-suc}
+use Rattle.std.proofs.Math.Nat.{pow-le-pow_right}
+use Rattle.std.proofs.lemmas.List.{reverse-append}
 use native.Mathlib.Numerals.{add-one, add-two, add-three}
+use native.Mathlib.Decide.{dec_lt}
 use native.Mathlib.Omega.{arith}
 use lib.ListN.{length, get_or, set, length-reverse}
 use mir.Val.{Fits}
 use mir.Syntax.{w8}
-use native.Mathlib.Decide.{dec_lt}
-use Rattle.fields.specs.Common.{Agree}
 use Rattle.fields.specs.Part.{part, splice, Apart}
+use Rattle.fields.specs.Common.{Agree}
 use Rattle.fields.specs.Number.{value, bytes_at, little, little_bytes, big, big_bytes}
-use Rattle.fields.proofs.PartLaws.{part_zero, part_suc, get_d_part, get_or_splice_below, get_or_splice_above, get_or_splice_in}
+use Rattle.fields.proofs.PartLaws.{splice_nil, splice_cons, splice_last, get_d_part, get_or_splice_below, get_or_splice_above, get_or_splice_in}
 
 -- ---- a number and its bytes
 
@@ -116,6 +118,82 @@ pub little_below : (w : ℕ) (xs : List ℕ) (at : ℕ) → ((i : ℕ) → at �
 unfolding little
 little_below w xs at h = value_below w xs at h
 
+-- ---- the loops of `read` and `write`: one byte more
+
+-- a number of one byte more, at its start or at its end
+little_more : (w : ℕ) (xs : List ℕ) (at : ℕ) → little (suc w) xs at ≡ get_or xs at 0 + little w xs (suc at) * 256
+unfolding little value bytes_at
+little_more w xs at = refl
+
+bytes_snoc : (w : ℕ) (xs : List ℕ) (at : ℕ) → bytes_at (suc w) xs at ≡ bytes_at w xs at ++ get_or xs (at + w) 0 ∷ []
+unfolding bytes_at
+bytes_snoc zero xs at = let e : at + 0 ≡ at = omega arith in rw e
+bytes_snoc (suc w) xs at = let e : at + suc w ≡ suc at + w = omega arith in rw e (ap (λ (zs : List ℕ). get_or xs at 0 ∷ zs) (bytes_snoc w xs (suc at)))
+
+big_more : (w : ℕ) (xs : List ℕ) (at : ℕ) → big (suc w) xs at ≡ get_or xs (at + w) 0 + big w xs at * 256
+unfolding big value
+big_more w xs at = rw (bytes_snoc w xs at, reverse-append) refl
+
+pub big_below : (w : ℕ) (xs : List ℕ) (at : ℕ) → ((i : ℕ) → get_or xs i 0 < 256) → big w xs at < 256 ^ w
+unfolding big value bytes_at
+big_below zero xs at h = omega arith
+big_below (suc w) xs at h = rw (pow-suc, big_more w xs at) (omega (arith, big_below w xs at h, h (at + w)))
+
+-- a read: bytes from the first one to the last
+module _ (xs : List ℕ) (at n number : ℕ) (bytes : (i : ℕ) → Fits w8 (get_or xs i 0)) (most : n ≤ 4) where
+  narrow : (w : ℕ) → w ≤ 3 → number < 256 ^ w → number < 16777216
+  narrow w h f = let p : 256 ^ w ≤ 256 ^ 3 = pow-le-pow_right (omega arith) h in omega arith
+
+  -- there is room for a byte more
+  pub big_narrow : (i j : ℕ) → i < n → number ≡ big i xs at → number * 256 + get_or xs j 0 < 4294967296
+  big_narrow i j h e = omega (arith, narrow i (omega arith) (rw e (big_below i xs at (λ k. (bytes k).fits))), (bytes j).fits)
+
+  pub big_end : (i : ℕ) → n ≤ i → i ≤ n → number ≡ big i xs at → (number ≡ big n xs at) × (number < 256 ^ n)
+  big_end i h k e =
+      let p : i ≡ n = omega arith in
+      let f : number ≡ big n xs at = rw p at e in
+      (f, rw f (big_below n xs at (λ j. (bytes j).fits)))
+
+pub big_start : (xs : List ℕ) (at : ℕ) → 0 ≡ big 0 xs at
+unfolding big value bytes_at
+big_start xs at = refl
+
+pub big_turn : (xs : List ℕ) (at i number : ℕ) → number ≡ big i xs at → number * 256 + get_or xs (at + i) 0 ≡ big (i + 1) xs at
+big_turn xs at i number e = rw (add-one, big_more, ← e) (omega arith)
+
+-- a write, with what is left of the number: from the first byte to the last, or from the last one to the first
+module _ (start : List ℕ) (at n value : ℕ) where
+  -- what the bytes are once the rest is stored from place i on
+  abbrev pub Onward : ℕ → ℕ → List ℕ → Type 0
+  Onward i rest s = splice s (at + i) (little_bytes (n - i) rest) ≡ splice start at (little_bytes n value)
+
+  -- or before it
+  abbrev pub Before : ℕ → ℕ → List ℕ → Type 0
+  Before i rest s = splice s at (big_bytes i rest) ≡ splice start at (big_bytes n value)
+
+  pub onward_turn : (i rest : ℕ) (s : List ℕ) → i < n → Onward i rest s → Onward (i + 1) (rest / 256) (set s (at + i) (rest % 256))
+  unfolding little_bytes
+  onward_turn i rest s h o =
+      let e : n - i ≡ suc (n - (i + 1)) = omega arith in
+      let f : at + (i + 1) ≡ suc (at + i) = omega arith in
+      rw f (sym (splice_cons s (at + i) (rest % 256) (little_bytes (n - (i + 1)) (rest / 256))) ∙ rw e at o)
+
+  pub onward_end : (i rest : ℕ) (s : List ℕ) → n ≤ i → Onward i rest s → s ≡ splice start at (little_bytes n value)
+  unfolding little_bytes
+  onward_end i rest s h o = let e : n - i ≡ 0 = omega arith in rw (e, splice_nil) at o
+
+  pub before_turn : (i rest : ℕ) (s : List ℕ) → 0 < i → Before i rest s → Before (i - 1) (rest / 256) (set s (at + (i - 1)) (rest % 256))
+  unfolding big_bytes little_bytes
+  before_turn i rest s h o =
+      let e : i ≡ suc (i - 1) = omega arith in
+      let low : List ℕ = little_bytes (i - 1) (rest / 256) in
+      let q : big_bytes i rest ≡ reverse low ++ rest % 256 ∷ [] = ap (λ (k : ℕ). big_bytes k rest) e ∙ reverse-append (rest % 256 ∷ []) low in
+      splice_last s at (reverse low) (rest % 256) (i - 1) (sym (length_big (i - 1) (rest / 256))) ∙ rw q at o
+
+  pub before_end : (i rest : ℕ) (s : List ℕ) → i ≤ 0 → Before i rest s → s ≡ splice start at (big_bytes n value)
+  unfolding big_bytes little_bytes
+  before_end i rest s h o = let e : i ≡ 0 = omega arith in rw (e, splice_nil) at o
+
 -- ---- bytes by their number: no other bytes have it
 
 value_one : (w : ℕ) (xs ys : List ℕ) (at : ℕ) → ((i : ℕ) → get_or xs i 0 < 256) → ((i : ℕ) → get_or ys i 0 < 256) → value (bytes_at w xs at) ≡ value (bytes_at w ys at) → Agree xs ys at w
@@ -131,29 +209,6 @@ pub little_one : (w : ℕ) (xs ys : List ℕ) (at : ℕ) → ((i : ℕ) → Fits
 unfolding little
 little_one w xs ys at f g e = value_one w xs ys at (λ i. (f i).fits) (λ i. (g i).fits) e
 
-pub little_alike : (w : ℕ) (xs ys : List ℕ) (at : ℕ) → Agree xs ys at w → little w xs at ≡ little w ys at
-little_alike w xs ys at a = little_agree w xs ys at at (λ i l. a (at + i) (omega arith) (omega arith))
-
--- the bytes of the number at a place are those that stand there
-little_back : (w : ℕ) (xs : List ℕ) (at : ℕ) → ((i : ℕ) → get_or xs i 0 < 256) → little_bytes w (value (bytes_at w xs at)) ≡ bytes_at w xs at
-unfolding little_bytes value bytes_at
-little_back zero xs at f = refl
-little_back (suc w) xs at f =
-    let v : ℕ = value (bytes_at w xs (suc at)) in
-    let b : ℕ = get_or xs at 0 in
-    let r : (b + v * 256) % 256 ≡ b = omega (arith, f at) in
-    let q : (b + v * 256) / 256 ≡ v = omega (arith, f at) in
-    rw (r, q, little_back w xs (suc at) f)
-
-pub bytes_are_part : (w : ℕ) (xs : List ℕ) (at : ℕ) → at + w ≤ length xs → bytes_at w xs at ≡ part xs at w
-unfolding bytes_at
-bytes_are_part zero xs at h = sym (part_zero xs at)
-bytes_are_part (suc w) xs at h = rw (part_suc xs at w (omega arith), bytes_are_part w xs (suc at) (omega arith))
-
-pub little_part_back : (w : ℕ) (xs : List ℕ) (at : ℕ) → ((i : ℕ) → Fits w8 (get_or xs i 0)) → at + w ≤ length xs → little_bytes w (little w xs at) ≡ part xs at w
-unfolding little
-little_part_back w xs at f h = little_back w xs at (λ i. (f i).fits) ∙ bytes_are_part w xs at h
-
 -- ---- the widths in use: what a read computes from the bytes
 
 module _ (xs : List ℕ) (at : ℕ) where
@@ -168,79 +223,3 @@ module _ (xs : List ℕ) (at : ℕ) where
   pub little_four : little 4 xs at ≡ get_or xs at 0 + get_or xs (at + 1) 0 * 256 + get_or xs (at + 2) 0 * 65536 + get_or xs (at + 3) 0 * 16777216
   unfolding little value bytes_at
   little_four = rw (add-one, add-two, add-three) (omega arith)
-
-  pub little_eight : little 8 xs at ≡ little 4 xs at + little 4 xs (at + 4) * 4294967296
-  unfolding little value bytes_at
-  little_eight = let e : at + 4 ≡ suc (suc (suc (suc at))) = omega arith in rw e (omega arith)
-
-  pub big_two : big 2 xs at ≡ get_or xs at 0 * 256 + get_or xs (at + 1) 0
-  unfolding big value bytes_at
-  big_two = rw add-one (omega arith)
-
-  pub big_four : big 4 xs at ≡ get_or xs at 0 * 16777216 + get_or xs (at + 1) 0 * 65536 + get_or xs (at + 2) 0 * 256 + get_or xs (at + 3) 0
-  unfolding big value bytes_at
-  big_four = rw (add-one, add-two, add-three) (omega arith)
-
--- ---- and what a write stores, byte by byte
-
-low_of : (x a q : ℕ) → x ≡ a + q * 256 → a % 256 ≡ x % 256
-low_of x a q e = omega arith
-
-rest_of : (x a q : ℕ) → x ≡ a + q * 256 → x / 256 ≡ a / 256 + q
-rest_of x a q e = omega arith
-
-module _ (xs : List ℕ) (at v : ℕ) where
-  pub stored_two : v < 65536 → splice xs at (little_bytes 2 v) ≡ set (set xs at (v % 256)) (at + 1) (v / 256)
-  unfolding splice little_bytes
-  stored_two h = let e : v / 256 % 256 ≡ v / 256 = omega arith in rw (add-one, e)
-
-  pub stored_three : splice xs at (little_bytes 3 v) ≡ set (set (set xs at (v % 256)) (at + 1) (v / 256 % 256)) (at + 2) (v / 65536 % 256)
-  unfolding splice little_bytes
-  stored_three = let e : v / 256 / 256 % 256 ≡ v / 65536 % 256 = omega arith in rw (add-one, add-two, e)
-
-  pub stored_four : v < 4294967296
-      → splice xs at (little_bytes 4 v) ≡ set (set (set (set xs at (v % 256)) (at + 1) (v / 256 % 256)) (at + 2) (v / 65536 % 256)) (at + 3) (v / 16777216)
-  unfolding splice little_bytes
-  stored_four h =
-      let d : v / 256 / 256 % 256 ≡ v / 65536 % 256 = omega arith in
-      let e : v / 256 / 256 / 256 % 256 ≡ v / 16777216 = omega arith in
-      rw (add-one, add-two, add-three, d, e)
-
-  pub stored_eight : splice (splice xs at (little_bytes 4 (v % 4294967296))) (at + 4) (little_bytes 4 (v / 4294967296)) ≡ splice xs at (little_bytes 8 v)
-  unfolding splice little_bytes
-  stored_eight =
-      let e : at + 4 ≡ suc (suc (suc (suc at))) = omega arith in
-      let lo : ℕ = v % 4294967296 in
-      let hi : ℕ = v / 4294967296 in
-      let e₀ : v ≡ lo + hi * 16777216 * 256 = omega arith in
-      let e₁ : v / 256 ≡ lo / 256 + hi * 65536 * 256 = rest_of v lo (hi * 16777216) e₀ ∙ omega arith in
-      let e₂ : v / 256 / 256 ≡ lo / 256 / 256 + hi * 256 * 256 = rest_of (v / 256) (lo / 256) (hi * 65536) e₁ ∙ omega arith in
-      let e₃ : v / 256 / 256 / 256 ≡ lo / 256 / 256 / 256 + hi * 256 = rest_of (v / 256 / 256) (lo / 256 / 256) (hi * 256) e₂ in
-      let z : lo / 256 / 256 / 256 / 256 ≡ 0 = omega arith in
-      let a : lo % 256 ≡ v % 256 = low_of v lo (hi * 16777216) e₀ in
-      let b : lo / 256 % 256 ≡ v / 256 % 256 = low_of (v / 256) (lo / 256) (hi * 65536) e₁ in
-      let c : lo / 256 / 256 % 256 ≡ v / 256 / 256 % 256 = low_of (v / 256 / 256) (lo / 256 / 256) (hi * 256) e₂ in
-      let d : lo / 256 / 256 / 256 % 256 ≡ v / 256 / 256 / 256 % 256 = low_of (v / 256 / 256 / 256) (lo / 256 / 256 / 256) hi e₃ in
-      let f : hi ≡ v / 256 / 256 / 256 / 256 = sym (rest_of (v / 256 / 256 / 256) (lo / 256 / 256 / 256) hi e₃ ∙ rw z (omega arith)) in
-      rw (e, a, b, c, d, f)
-
-  pub stored_two_big : v < 65536 → splice xs at (big_bytes 2 v) ≡ set (set xs at (v / 256)) (at + 1) (v % 256)
-  unfolding splice little_bytes big_bytes
-  stored_two_big h = let e : v / 256 % 256 ≡ v / 256 = omega arith in rw (add-one, e)
-
-  pub stored_four_big : v < 4294967296
-      → splice xs at (big_bytes 4 v) ≡ set (set (set (set xs at (v / 16777216)) (at + 1) (v / 65536 % 256)) (at + 2) (v / 256 % 256)) (at + 3) (v % 256)
-  unfolding splice little_bytes big_bytes
-  stored_four_big h =
-      let d : v / 256 / 256 % 256 ≡ v / 65536 % 256 = omega arith in
-      let e : v / 256 / 256 / 256 % 256 ≡ v / 16777216 = omega arith in
-      rw (add-one, add-two, add-three, d, e)
-
--- eight bytes as one number, by halves
-pub halves_stored : (xs ys zs : List ℕ) (at v : ℕ) → ys ≡ splice xs at (little_bytes 4 (v % 4294967296)) → zs ≡ splice ys (at + 4) (little_bytes 4 (v / 4294967296))
-    → zs ≡ splice xs at (little_bytes 8 v)
-halves_stored xs ys zs at v p q = q ∙ ap (λ (s : List ℕ). splice s (at + 4) (little_bytes 4 (v / 4294967296))) p ∙ stored_eight xs at v
-
-pub word_stored : (xs ys zs : List ℕ) (at v : ℕ) → ((i : ℕ) → Fits w8 (get_or ys i 0)) → at + 8 ≤ length ys → v ≡ little 8 ys at → zs ≡ splice xs at (little_bytes 8 v)
-    → zs ≡ splice xs at (part ys at 8)
-word_stored xs ys zs at v f h p q = q ∙ ap (splice xs at) (ap (little_bytes 8) p ∙ little_part_back 8 ys at f h)

@@ -10,8 +10,9 @@ use native.Mathlib.Omega.{arith}
 use lib.Dec.{leb}
 use lib.ListN.{length, take, drop, get_or, set, length-take, length-drop, length-set}
 use native.Mathlib.Decide.{dec_lt}
-use lib.Seq.{sets, length-sets, sets-eq, set_out, take-set-le, take-set-lt, get_or-take, get_or-drop, drop-drop, ext_get_or, get_or-set_same, get_or-set_other, drop-cons, take_all}
+use lib.Seq.{sets, length-sets, sets-eq, set_out, take-set-le, take-set-lt, get_or-take, get_or-drop, drop-drop, ext_get_or, get_or-set_same, get_or-set_other, set_comm, take_all}
 use borrow.Author.Tests.{leb-true, leb-false}
+use Rattle.std.specs.List.{CopiedTo, SameBelow, SameFrom}
 use Rattle.fields.specs.Part.{part, splice, Apart}
 
 -- ---- a part
@@ -23,14 +24,6 @@ length_part xs a n h = simp (length-take, length-drop) (omega arith)
 pub get_d_part : (xs : List ℕ) (a n i : ℕ) → i < n → get_or (part xs a n) i 0 ≡ get_or xs (a + i) 0
 unfolding part
 get_d_part xs a n i h = rw (get_or-take, get_or-drop)
-
-pub part_zero : (xs : List ℕ) (a : ℕ) → part xs a 0 ≡ []
-unfolding part
-part_zero xs a = refl
-
-pub part_suc : (xs : List ℕ) (a n : ℕ) → a < length xs → part xs a (suc n) ≡ get_or xs a 0 ∷ part xs (suc a) n
-unfolding part
-part_suc xs a n h = rw (drop-cons xs a 0 h)
 
 pub part_all : (xs : List ℕ) (n : ℕ) → length xs ≤ n → part xs 0 n ≡ xs
 unfolding part
@@ -162,6 +155,36 @@ splice_append xs a [] zs = let e : a + 0 ≡ a = omega arith in rw e
 splice_append xs a (y ∷ ys) zs =
     let e : a + suc (length ys) ≡ suc a + length ys = omega arith in
     rw e (splice_append (set xs a y) (suc a) ys zs)
+
+-- one byte put after the place of a splice is one put before it, and after it the splice's next one
+set_past : (xs : List ℕ) (a : ℕ) (ys : List ℕ) (p x : ℕ) → a + length ys ≤ p → splice (set xs p x) a ys ≡ set (splice xs a ys) p x
+unfolding splice
+set_past xs a [] p x h = refl
+set_past xs a (y ∷ ys) p x h =
+    ap (λ (zs : List ℕ). splice zs (suc a) ys) (set_comm xs p a x y (omega arith))
+    ∙ set_past (set xs a y) (suc a) ys p x (omega arith)
+
+splice_snoc : (xs : List ℕ) (a : ℕ) (ys : List ℕ) (x : ℕ) → set (splice xs a ys) (a + length ys) x ≡ splice xs a (ys ++ x ∷ [])
+unfolding splice
+splice_snoc xs a [] x = let e : a + 0 ≡ a = omega arith in rw e
+splice_snoc xs a (y ∷ ys) x =
+    let e : a + suc (length ys) ≡ suc a + length ys = omega arith in
+    rw e (splice_snoc (set xs a y) (suc a) ys x)
+
+pub splice_last : (xs : List ℕ) (a : ℕ) (ys : List ℕ) (x n : ℕ) → n ≡ length ys → splice (set xs (a + n) x) a ys ≡ splice xs a (ys ++ x ∷ [])
+splice_last xs a ys x n e = rw e (set_past xs a ys (a + length ys) x (omega arith) ∙ splice_snoc xs a ys x)
+
+-- ---- the library's move within a slice
+
+pub moved : (xs zs : List ℕ) (to from n m : ℕ) → m ≡ n → length zs ≡ length xs → to + n ≤ length xs → from + n ≤ length xs
+    → CopiedTo xs zs from to m → SameBelow xs zs to → SameFrom xs zs (to + m) → zs ≡ splice xs to (part xs from n)
+moved xs zs to from n m e l f g inside below above =
+    is_splice xs zs to (part xs from n) l (omega (arith, length_part xs from n g))
+    (λ i h.
+    let k : i < n = omega (arith, length_part xs from n g) in
+    let p : to + i - to ≡ i = omega arith in
+    rw p at (inside (to + i) 0 (omega arith) (omega arith)) ∙ sym (get_d_part xs from n i k))
+    (λ i h. ⊎_elim (λ k. below i 0 k) (λ k. above i 0 (omega (arith, length_part xs from n g))) h)
 
 -- ---- a part that is lent as `&mut s[a..a + n]`, and the whole once it has come back with ys in it
 

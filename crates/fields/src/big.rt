@@ -1,38 +1,26 @@
-// Numbers of 2 and 4 bytes in a slice, the high byte first, as entries have them.
-ghost use Rattle.std.specs.Prelude.{◌≡◌, ◌+◌, ◌≤◌, ◌<◌, length};
+// Numbers of up to 4 bytes in a slice, the high byte first, as entries have them. `little` stays apart: a trait for the order would be longer than two loops.
+ghost use Rattle.std.specs.Prelude.{◌≡◌, ◌+◌, ◌^◌, ◌≤◌, ◌<◌, length};
 ghost use Rattle.fields.specs.Part.{splice};
 ghost use Rattle.fields.specs.Number.{big, big_bytes};
 
-use super::wide;
-
-pub fn read2(s: &[u8], at: usize) -> u16
-    requires { at + 2 ≤ length s.now }
-    ensures { (result ≡ big 2 s.now at) × (result < 65536) }
+pub fn read<const N: usize>(s: &[u8], at: usize) -> u32
+    requires { (N ≤ 4) × (at + N ≤ length s.now) }
+    ensures { (result ≡ big N s.now at) × (result < 256 ^ N) }
 {
-    (wide(s[at]) * 256 + wide(s[at + 1])) as u16
+    let mut number = 0;
+    for i in 0..N {
+        number = number * 256 + s[at + i] as u32;
+    }
+    number
 }
 
-pub fn read4(s: &[u8], at: usize) -> u32
-    requires { at + 4 ≤ length s.now }
-    ensures { (result ≡ big 4 s.now at) × (result < 4294967296) }
+pub fn write<const N: usize>(s: &mut [u8], at: usize, value: u32)
+    requires { at + N ≤ length s.old }
+    ensures { s.new ≡ splice s.old at (big_bytes N value) }
 {
-    wide(s[at]) * 16777216 + wide(s[at + 1]) * 65536 + wide(s[at + 2]) * 256 + wide(s[at + 3])
-}
-
-pub fn write2(s: &mut [u8], at: usize, value: u16)
-    requires { at + 2 ≤ length s.old }
-    ensures { s.new ≡ splice s.old at (big_bytes 2 value) }
-{
-    s[at] = (value / 256) as u8;
-    s[at + 1] = (value % 256) as u8;
-}
-
-pub fn write4(s: &mut [u8], at: usize, value: u32)
-    requires { at + 4 ≤ length s.old }
-    ensures { s.new ≡ splice s.old at (big_bytes 4 value) }
-{
-    s[at] = (value / 16777216) as u8;
-    s[at + 1] = (value / 65536 % 256) as u8;
-    s[at + 2] = (value / 256 % 256) as u8;
-    s[at + 3] = (value % 256) as u8;
+    let mut rest = value;
+    for i in (0..N).rev() {
+        s[at + i] = (rest % 256) as u8;
+        rest /= 256;
+    }
 }

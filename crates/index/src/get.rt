@@ -1,3 +1,3 @@
 // The value of a stored key.
-pub use index_spec::get::Got;
+pub use index_spec::stored::LookupError;
 pub use key_calls::get::get;

@@ -2,7 +2,6 @@
 use Prim.Native.Nat.{ℕ, ◌≤◌, ◌<◌}
 use mathlib.Core.Path.{◌≡◌, refl, sym, ap, subst, ◌∙◌}
 use mathlib.Core.Logic.{◌≢◌}
-use mathlib.Core.Bool.{Bool, true, false, cond}
 use mathlib.Core.List.{List}
 use mathlib.Core.Option.{Option, none, some}
 use native.Mathlib.Omega.{arith}
@@ -25,16 +24,11 @@ use Rattle.promises.proofs.Bridge.{Wrote, after_either, some_room, insert_answer
 use Rattle.node.specs.Layout.{start}
 use Rattle.node.specs.Header.{head_in, head_of}
 use Rattle.node.specs.declared.header.Header.{Header}
-use Rattle.node.specs.declared.header.Head.{Head}
-use Rattle.node.specs.declared.header.Head.TheVariants.{Good, Bad}
 use Rattle.trie_spec.specs.Accepted.{Accepted}
-use Rattle.trie_spec.specs.Walk.{Within}
 use Rattle.trie_spec.specs.Find.{find_in, Stands}
 use Rattle.trie_spec.specs.Writes.{Outcome, outcome, Did, insert_in, remove_under}
-use Rattle.trie_spec.specs.declared.descent.Step.{Step}
-use Rattle.node.specs.declared.child.LeafNo.{LeafNo}
-use Rattle.trie_spec.specs.declared.insert.Put.{Put}
-use Rattle.trie_spec.specs.declared.find.Exact.{Exact}
+use Rattle.trie_spec.specs.Writes.{Put, Removed}
+use Rattle.trie_spec.specs.declared.insert.PutError.{PutError}
 use Rattle.trie_spec.proofs.HeldLaws.{bytes_of}
 use Rattle.trie_spec.proofs.PutLaws.{answer_of, Inserts, insert_means}
 use Rattle.trie_spec.proofs.KeepLaws.{Keeps, keeps_refl, Decent, insert_decent, DecentCut, remove_decent, keeps_value, find_stands}
@@ -46,13 +40,17 @@ use Rattle.trie_spec.specs.declared.descent.Spot.TheVariants.{Root}
 use Rattle.trie_spec.proofs.OneLaws.{one_map}
 use Rattle.index_spec.specs.Layout.{layout}
 use Rattle.index_spec.specs.Replies.{insert_reply, inserted_of, get_reply, changed_reply}
-use Rattle.index_spec.specs.Calls.{got_of, got_in, overwritten, overwritten_in, taken_out, removed, removed_in}
-use Rattle.index_spec.specs.declared.insert.Inserted.{Inserted}
-use Rattle.index_spec.specs.declared.get.Got.{Got}
-use Rattle.index_spec.specs.declared.changed.Changed.{Changed}
+use Rattle.index_spec.specs.Calls.{got_of, got_in, overwritten, overwritten_in, taken_out, removed_of, removed, removed_in}
 use Rattle.index_spec.proofs.LawfulLaws.{lawful_but_one}
 use Rattle.index_spec.proofs.WayLaws.{too_long_lem, not_too_long}
 use Rattle.index_spec.proofs.HeadLaws.{Headed, headed, blocks, not_wrong, rest_of, reads_bad, writes_bad}
+use Rattle.std.specs.Prelude.{Result, Ok, Err, Some, None}
+use Rattle.trie_spec.specs.Find.{Exact}
+use Rattle.node.specs.declared.NotAStore.{NotAStore}
+use Rattle.node.specs.NotAStore.{not_a_store}
+use Rattle.index_spec.specs.declared.insert.InsertError.{InsertError}
+use Rattle.trie_spec.specs.declared.insert.Inserted.{Inserted}
+use Rattle.index_spec.specs.declared.stored.LookupError.{LookupError}
 
 -- a key that is too long
 keyed_short : (k : List ℕ) (a : Answer) → length k ≤ key_limit → keyed k a ≡ a
@@ -77,34 +75,34 @@ module _ (st : List ℕ) (h : Header) (e : Headed st h) (k : List ℕ) (long : k
 
 -- ---- insert
 
-inserted_kind : (r : Inserted) → Kind insert_kinds (insert_reply r)
-inserted_kind Inserted.New = record { among = refl; value = λ q. refl; count = λ q. refl; end = λ q. refl }
-inserted_kind Inserted.Replaced = record { among = refl; value = λ q. refl; count = λ q. refl; end = λ q. refl }
-inserted_kind Inserted.Store = record { among = refl; value = λ q. refl; count = λ q. refl; end = λ q. refl }
-inserted_kind Inserted.Key = record { among = refl; value = λ q. refl; count = λ q. refl; end = λ q. refl }
-inserted_kind Inserted.Height = record { among = refl; value = λ q. refl; count = λ q. refl; end = λ q. refl }
-inserted_kind Inserted.Full = record { among = refl; value = λ q. refl; count = λ q. refl; end = λ q. refl }
+inserted_kind : (r : Result Inserted InsertError) → Kind insert_kinds (insert_reply r)
+inserted_kind (Ok Inserted.New) = record { among = refl; value = λ q. refl; count = λ q. refl; end = λ q. refl }
+inserted_kind (Ok Inserted.Replaced) = record { among = refl; value = λ q. refl; count = λ q. refl; end = λ q. refl }
+inserted_kind (Err InsertError.Store) = record { among = refl; value = λ q. refl; count = λ q. refl; end = λ q. refl }
+inserted_kind (Err InsertError.Key) = record { among = refl; value = λ q. refl; count = λ q. refl; end = λ q. refl }
+inserted_kind (Err InsertError.Height) = record { among = refl; value = λ q. refl; count = λ q. refl; end = λ q. refl }
+inserted_kind (Err InsertError.Full) = record { among = refl; value = λ q. refl; count = λ q. refl; end = λ q. refl }
 
 -- an insertion's name is its answer
 inserted_is : (p : Put) → insert_reply (inserted_of p) ≡ alone (answer_of p)
-inserted_is Put.New = refl
-inserted_is Put.Replaced = refl
-inserted_is Put.Height = refl
-inserted_is Put.Full = refl
-inserted_is Put.Wrong = refl
+inserted_is (Ok Inserted.New) = refl
+inserted_is (Ok Inserted.Replaced) = refl
+inserted_is (Err PutError.Height) = refl
+inserted_is (Err PutError.Full) = refl
+inserted_is (Err PutError.Store) = refl
 
-pub insert_bad : (k : List ℕ) (v : ℕ) (st : List ℕ) (x : Head) → x ≡ head_of st → x ≡ Bad → Insert layout k v st st (insert_reply Inserted.Store)
-insert_bad k v st x p b = writes_bad st x p b insert_kinds (insert_says k v) (inserted_kind Inserted.Store)
+pub insert_bad : (k : List ℕ) (v : ℕ) (st : List ℕ) (x : Result Header NotAStore) → x ≡ head_of st → x ≡ Err not_a_store → Insert layout k v st st (insert_reply (Err InsertError.Store))
+insert_bad k v st x p b = writes_bad st x p b insert_kinds (insert_says k v) (inserted_kind (Err InsertError.Store))
 
-pub insert_long : (k : List ℕ) (v : ℕ) (st : List ℕ) (x : Head) (h : Header) → x ≡ head_of st → x ≡ Good h → key_limit < length k → Insert layout k v st st (insert_reply Inserted.Key)
+pub insert_long : (k : List ℕ) (v : ℕ) (st : List ℕ) (x : Result Header NotAStore) (h : Header) → x ≡ head_of st → x ≡ Ok h → key_limit < length k → Insert layout k v st st (insert_reply (Err InsertError.Key))
 insert_long k v st x h p g l =
-    writes_key st h (headed st x h p g) k l insert_kinds (λ m. put_answer (lookup k m.map) (new_answer k m)) (λ m. with_map m (put k v m.map)) (inserted_kind Inserted.Key)
+    writes_key st h (headed st x h p g) k l insert_kinds (λ m. put_answer (lookup k m.map) (new_answer k m)) (λ m. with_map m (put k v m.map)) (inserted_kind (Err InsertError.Key))
 
 -- the layout of the index keeps what the promises need
 pub lawful : Lawful layout
 lawful = lawful_but_one one_map
 
-module _ (k : List ℕ) (v : ℕ) (st st' : List ℕ) (x : Head) (h : Header) (p : x ≡ head_of st) (g : x ≡ Good h) (short : length k ≤ key_limit) (bytes : (i : ℕ) → Fits w8 (get_or k i 0))
+module _ (k : List ℕ) (v : ℕ) (st st' : List ℕ) (x : Result Header NotAStore) (h : Header) (p : x ≡ head_of st) (g : x ≡ Ok h) (short : length k ≤ key_limit) (bytes : (i : ℕ) → Fits w8 (get_or k i 0))
     (exit : (i : ℕ) → Fits w8 (get_or st' i 0)) where
   e : Headed st h
   e = headed st x h p g
@@ -115,7 +113,7 @@ module _ (k : List ℕ) (v : ℕ) (st st' : List ℕ) (x : Head) (h : Header) (p
   is_key : IsKey k
   is_key = record { bytes = bytes_of k bytes; fits = short }
 
-  pub insert_done : (q : Put) (r : Inserted) → Fits w32 v → Did (insert_in st h k v) q st' → r ≡ inserted_of q → Insert layout k v st st' (insert_reply r)
+  pub insert_done : (q : Put) (r : Result Inserted InsertError) → Fits w32 v → Did (insert_in st h k v) q st' → r ≡ inserted_of q → Insert layout k v st st' (insert_reply r)
   insert_done q r value d n =
       let decent : Decent h.capacity st (insert_in st h k v) = insert_decent st h.capacity (blocks st x h p g) k v short is_key.bytes h refl in
       let keeps : Keeps h.capacity st st' = subst (Keeps h.capacity st) (sym d.1) decent.keeps in
@@ -154,17 +152,17 @@ module _ (k : List ℕ) (v : ℕ) (st st' : List ℕ) (x : Head) (h : Header) (p
 
 -- ---- get
 
-got_kind : (r : Got) → Kind get_kinds (get_reply r)
-got_kind (Got.Value v) = record { among = refl; value = λ q. absurd (omega arith); count = λ q. refl; end = λ q. refl }
-got_kind Got.Store = record { among = refl; value = λ q. refl; count = λ q. refl; end = λ q. refl }
-got_kind Got.Key = record { among = refl; value = λ q. refl; count = λ q. refl; end = λ q. refl }
-got_kind Got.Absent = record { among = refl; value = λ q. refl; count = λ q. refl; end = λ q. refl }
+got_kind : (r : Result ℕ LookupError) → Kind get_kinds (get_reply r)
+got_kind (Ok v) = record { among = refl; value = λ q. absurd (omega arith); count = λ q. refl; end = λ q. refl }
+got_kind (Err LookupError.Store) = record { among = refl; value = λ q. refl; count = λ q. refl; end = λ q. refl }
+got_kind (Err LookupError.Key) = record { among = refl; value = λ q. refl; count = λ q. refl; end = λ q. refl }
+got_kind (Err LookupError.Absent) = record { among = refl; value = λ q. refl; count = λ q. refl; end = λ q. refl }
 
-pub get_bad : (k st : List ℕ) (x : Head) → x ≡ head_of st → x ≡ Bad → Get layout k st (get_reply Got.Store)
-get_bad k st x p b = reads_bad st x p b get_kinds (get_says k) (got_kind Got.Store)
+pub get_bad : (k st : List ℕ) (x : Result Header NotAStore) → x ≡ head_of st → x ≡ Err not_a_store → Get layout k st (get_reply (Err LookupError.Store))
+get_bad k st x p b = reads_bad st x p b get_kinds (get_says k) (got_kind (Err LookupError.Store))
 
-pub get_long : (k st : List ℕ) (x : Head) (h : Header) → x ≡ head_of st → x ≡ Good h → key_limit < length k → Get layout k st (get_reply Got.Key)
-get_long k st x h p g l = reads_key st h (headed st x h p g) k l get_kinds (get_says k) (got_kind Got.Key) (λ m. sym (rw (too_long_lem k l)))
+pub get_long : (k st : List ℕ) (x : Result Header NotAStore) (h : Header) → x ≡ head_of st → x ≡ Ok h → key_limit < length k → Get layout k st (get_reply (Err LookupError.Key))
+get_long k st x h p g l = reads_key st h (headed st x h p g) k l get_kinds (get_says k) (got_kind (Err LookupError.Key)) (λ m. sym (rw (too_long_lem k l)))
 
 -- what a lookup says of an accepted store is what the tree has
 got_is : (k st : List ℕ) (o : Option Tree) → Accepted st o → get_reply (got_in st (head_in st) k) ≡ value_reply (get_root k o)
@@ -175,7 +173,7 @@ got_is k st (some t) a = go (get_t k t) (find_means st k (some t) a)
     go none f = ap (λ (z : Exact). get_reply (got_of st z)) f
     go (some v) (s, f, i, c) = ap (λ (z : Exact). get_reply (got_of st z)) f ∙ ap (λ (z : ℕ). value_reply (some z)) i.value
 
-pub get_done : (k st : List ℕ) (x : Head) (h : Header) → x ≡ head_of st → x ≡ Good h → length k ≤ key_limit → (r : Got) → r ≡ got_in st h k → Get layout k st (get_reply r)
+pub get_done : (k st : List ℕ) (x : Result Header NotAStore) (h : Header) → x ≡ head_of st → x ≡ Ok h → length k ≤ key_limit → (r : Result ℕ LookupError) → r ≡ got_in st h k → Get layout k st (get_reply r)
 get_done k st x h p g short r d =
     let e = headed st x h p g in
     record {
@@ -188,39 +186,39 @@ get_done k st x h p g short r d =
 
 -- ---- overwrite and remove
 
-changed_kind : (r : Changed) → Kind remove_kinds (changed_reply r)
-changed_kind Changed.Done = record { among = refl; value = λ q. refl; count = λ q. refl; end = λ q. refl }
-changed_kind Changed.Store = record { among = refl; value = λ q. refl; count = λ q. refl; end = λ q. refl }
-changed_kind Changed.Key = record { among = refl; value = λ q. refl; count = λ q. refl; end = λ q. refl }
-changed_kind Changed.Absent = record { among = refl; value = λ q. refl; count = λ q. refl; end = λ q. refl }
+changed_kind : (r : Result (Unit {0}) LookupError) → Kind remove_kinds (changed_reply r)
+changed_kind (Ok u) = record { among = refl; value = λ q. refl; count = λ q. refl; end = λ q. refl }
+changed_kind (Err LookupError.Store) = record { among = refl; value = λ q. refl; count = λ q. refl; end = λ q. refl }
+changed_kind (Err LookupError.Key) = record { among = refl; value = λ q. refl; count = λ q. refl; end = λ q. refl }
+changed_kind (Err LookupError.Absent) = record { among = refl; value = λ q. refl; count = λ q. refl; end = λ q. refl }
 
-pub overwrite_bad : (k : List ℕ) (v : ℕ) (st : List ℕ) (x : Head) → x ≡ head_of st → x ≡ Bad → Overwrite layout k v st st (changed_reply Changed.Store)
-overwrite_bad k v st x p b = writes_bad st x p b overwrite_kinds (overwrite_says k v) (changed_kind Changed.Store)
+pub overwrite_bad : (k : List ℕ) (v : ℕ) (st : List ℕ) (x : Result Header NotAStore) → x ≡ head_of st → x ≡ Err not_a_store → Overwrite layout k v st st (changed_reply (Err LookupError.Store))
+overwrite_bad k v st x p b = writes_bad st x p b overwrite_kinds (overwrite_says k v) (changed_kind (Err LookupError.Store))
 
-pub remove_bad : (k st : List ℕ) (x : Head) → x ≡ head_of st → x ≡ Bad → Remove layout k st st (changed_reply Changed.Store)
-remove_bad k st x p b = writes_bad st x p b remove_kinds (remove_says k) (changed_kind Changed.Store)
+pub remove_bad : (k st : List ℕ) (x : Result Header NotAStore) → x ≡ head_of st → x ≡ Err not_a_store → Remove layout k st st (changed_reply (Err LookupError.Store))
+remove_bad k st x p b = writes_bad st x p b remove_kinds (remove_says k) (changed_kind (Err LookupError.Store))
 
-pub overwrite_long : (k : List ℕ) (v : ℕ) (st : List ℕ) (x : Head) (h : Header) → x ≡ head_of st → x ≡ Good h → key_limit < length k → Overwrite layout k v st st (changed_reply Changed.Key)
+pub overwrite_long : (k : List ℕ) (v : ℕ) (st : List ℕ) (x : Result Header NotAStore) (h : Header) → x ≡ head_of st → x ≡ Ok h → key_limit < length k → Overwrite layout k v st st (changed_reply (Err LookupError.Key))
 overwrite_long k v st x h p g l =
-    writes_key st h (headed st x h p g) k l overwrite_kinds (λ m. stored_answer (lookup k m.map)) (λ m. with_map m (put k v m.map)) (changed_kind Changed.Key)
+    writes_key st h (headed st x h p g) k l overwrite_kinds (λ m. stored_answer (lookup k m.map)) (λ m. with_map m (put k v m.map)) (changed_kind (Err LookupError.Key))
 
-pub remove_long : (k st : List ℕ) (x : Head) (h : Header) → x ≡ head_of st → x ≡ Good h → key_limit < length k → Remove layout k st st (changed_reply Changed.Key)
+pub remove_long : (k st : List ℕ) (x : Result Header NotAStore) (h : Header) → x ≡ head_of st → x ≡ Ok h → key_limit < length k → Remove layout k st st (changed_reply (Err LookupError.Key))
 remove_long k st x h p g l =
-    writes_key st h (headed st x h p g) k l remove_kinds (λ m. stored_answer (lookup k m.map)) (λ m. with_map m (del k m.map)) (changed_kind Changed.Key)
+    writes_key st h (headed st x h p g) k l remove_kinds (λ m. stored_answer (lookup k m.map)) (λ m. with_map m (del k m.map)) (changed_kind (Err LookupError.Key))
 
 -- What overwrite and remove come to, by the tree's value for the key, which some other tree takes the place of.
-pub record Changes (st : List ℕ) (cap : ℕ) (c : Outcome Changed) : Type 0 where
+pub record Changes (st : List ℕ) (cap : ℕ) (c : Outcome (Result (Unit {0}) LookupError)) : Type 0 where
   pub keeps : Keeps cap st c.bytes
   pub refused : 10 ≤ (changed_reply c.answer).answer → c.bytes ≡ st
 
 -- the answer, where the tree has the key or has it not, and the store after it
-abbrev pub Means_by : (st : List ℕ) (k : List ℕ) (o after : Option Tree) → Outcome Changed → Type 0
+abbrev pub Means_by : (st : List ℕ) (k : List ℕ) (o after : Option Tree) → Outcome (Result (Unit {0}) LookupError) → Type 0
 Means_by st k o after c =
     (changed_reply c.answer ≡ alone (stored_answer (get_root k o)))
     × (get_root k o ≢ none → ((i : ℕ) → i < used c.bytes → get_or c.bytes i 0 < 256) → Wrote layout lawful st c.bytes after)
 
-module _ (k st st' : List ℕ) (x : Head) (h : Header) (p : x ≡ head_of st) (g : x ≡ Good h) (short : length k ≤ key_limit) (exit : (i : ℕ) → Fits w8 (get_or st' i 0))
-    (c : Outcome Changed) (changes : Changes st h.capacity c) (r : Changed) (d : Did c r st') (n : Meaning → Meaning)
+module _ (k st st' : List ℕ) (x : Result Header NotAStore) (h : Header) (p : x ≡ head_of st) (g : x ≡ Ok h) (short : length k ≤ key_limit) (exit : (i : ℕ) → Fits w8 (get_or st' i 0))
+    (c : Outcome (Result (Unit {0}) LookupError)) (changes : Changes st h.capacity c) (r : Result (Unit {0}) LookupError) (d : Did c r st') (n : Meaning → Meaning)
     (after-of : (m : Meaning) → Means layout st m → Option Tree)
     (says : (m : Meaning) (w : Means layout st m) → Means_by st k w.tree (after-of m w) c)
     (maps : (m : Meaning) (w : Means layout st m) → get_root k w.tree ≢ none → Wrote layout lawful st st' (after-of m w) → Means layout st' (n m)) where
@@ -231,7 +229,7 @@ module _ (k st st' : List ℕ) (x : Head) (h : Header) (p : x ≡ head_of st) (g
   keeps = subst (Keeps h.capacity st) (sym d.1) changes.keeps
 
   refused : 10 ≤ (changed_reply r).answer → st' ≡ st
-  refused l = d.1 ∙ changes.refused (subst (λ (z : Changed). 10 ≤ (changed_reply z).answer) d.0 l)
+  refused l = d.1 ∙ changes.refused (subst (λ (z : Result (Unit {0}) LookupError). 10 ≤ (changed_reply z).answer) d.0 l)
 
   found : (m : Meaning) (w : Means layout st m) → get_root k w.tree ≡ lookup k m.map
   found m w = get_entries k w.tree w.accepted.picture ∙ ap (lookup k) w.map
@@ -261,7 +259,7 @@ module _ (k st st' : List ℕ) (x : Head) (h : Header) (p : x ≡ head_of st) (g
   }
 
 -- a change that is done, or is none
-no_change : (st : List ℕ) (cap : ℕ) (a : Changed) → Changes st cap (outcome a st)
+no_change : (st : List ℕ) (cap : ℕ) (a : Result (Unit {0}) LookupError) → Changes st cap (outcome a st)
 no_change st cap a = record { keeps = keeps_refl cap st; refused = λ l. refl }
 
 stored_closest : (k : List ℕ) (t : Tree) → Picture t → get_t k t ≢ none → k ≡ (closest k t).key
@@ -270,9 +268,9 @@ stored_closest k t pic d = closest_is k t pic (λ e. d (get_entries k (some t) p
 -- ---- overwrite
 
 overwrite_changes : (st : List ℕ) (cap v : ℕ) (z : Exact) → Stands cap z → Changes st cap (overwritten st v z)
-overwrite_changes st cap v (Exact.Leaf n s) q = record { keeps = keeps_value cap st n.0 v q.0; refused = λ l. absurd (omega arith) }
-overwrite_changes st cap v Exact.Absent q = no_change st cap Changed.Absent
-overwrite_changes st cap v Exact.Wrong q = no_change st cap Changed.Store
+overwrite_changes st cap v (Ok (Some (n, s))) q = record { keeps = keeps_value cap st n.0 v q.0; refused = λ l. absurd (omega arith) }
+overwrite_changes st cap v (Ok None) q = no_change st cap (Err LookupError.Absent)
+overwrite_changes st cap v (Err e) q = no_change st cap (Err LookupError.Store)
 
 abbrev set_root : List ℕ → ℕ → Option Tree → Option Tree
 set_root k v none = none
@@ -301,8 +299,8 @@ overwrite_maps st st' k v i m w d u = go w.tree refl d u
         overwrite_after layout lawful st st' m k v t w q i
         (λ z. n (get_entries k (some t) (subst Pictured q w.accepted.picture) ∙ z)) x
 
-module _ (k st st' : List ℕ) (x : Head) (h : Header) (p : x ≡ head_of st) (g : x ≡ Good h) (short : length k ≤ key_limit) (bytes : (i : ℕ) → Fits w8 (get_or k i 0))
-    (exit : (i : ℕ) → Fits w8 (get_or st' i 0)) (r : Changed) where
+module _ (k st st' : List ℕ) (x : Result Header NotAStore) (h : Header) (p : x ≡ head_of st) (g : x ≡ Ok h) (short : length k ≤ key_limit) (bytes : (i : ℕ) → Fits w8 (get_or k i 0))
+    (exit : (i : ℕ) → Fits w8 (get_or st' i 0)) (r : Result (Unit {0}) LookupError) where
   its_head : h ≡ head_in st
   its_head = (headed st x h p g).right.is
 
@@ -321,18 +319,18 @@ module _ (k st st' : List ℕ) (x : Head) (h : Header) (p : x ≡ head_of st) (g
 
 -- ---- remove
 
-taken_changes : (st : List ℕ) (cap : ℕ) (fits : start cap ≤ length st) (t : Outcome Bool) → DecentCut st cap fits t → Changes st cap (taken_out t)
-taken_changes st cap fits t q = record { keeps = q.keeps; refused = λ l. go t.answer refl l }
+taken_changes : (st : List ℕ) (cap : ℕ) (fits : start cap ≤ length st) (t : Outcome Removed) → DecentCut st cap fits t → Changes st cap (taken_out t)
+taken_changes st cap fits t d = record { keeps = d.keeps; refused = go t.answer refl }
   where
-    go : (b : Bool) → t.answer ≡ b → 10 ≤ (changed_reply (cond b Changed.Done Changed.Store)).answer → t.bytes ≡ st
-    go true e l = absurd (omega arith)
-    go false e l = q.refused e
+    go : (b : Removed) → t.answer ≡ b → 10 ≤ (changed_reply (removed_of b)).answer → t.bytes ≡ st
+    go (Ok u) z l = absurd (omega arith)
+    go (Err x) z l = d.refused z
 
 remove_changes : (st : List ℕ) (h : Header) → start h.capacity ≤ length st → (z : Exact) → Stands h.capacity z → Changes st h.capacity (removed st h z)
-remove_changes st h fits (Exact.Leaf n s) q =
+remove_changes st h fits (Ok (Some (n, s))) q =
     taken_changes st h.capacity fits (remove_under st h n.0 s.at s.above) (remove_decent st h.capacity fits h n.0 s.at s.above q.0 q.1 q.2)
-remove_changes st h fits Exact.Absent q = no_change st h.capacity Changed.Absent
-remove_changes st h fits Exact.Wrong q = no_change st h.capacity Changed.Store
+remove_changes st h fits (Ok None) q = no_change st h.capacity (Err LookupError.Absent)
+remove_changes st h fits (Err e) q = no_change st h.capacity (Err LookupError.Store)
 
 remove_by : (st : List ℕ) (k : List ℕ) (o : Option Tree) → Accepted st o → Means_by st k o (remove_root k o) (removed_in st (head_in st) k)
 remove_by st k none a = (ap (λ (z : Exact). changed_reply (removed st (head_in st) z).answer) (find_means st k none a), λ d. absurd (d refl))
@@ -350,22 +348,11 @@ remove_by st k (some t) a = go (get_t k t) refl (find_means st k (some t) a)
         stored : k ≡ (closest k t).key
         stored = stored_closest k t a.picture (λ z. let y : ◌≡◌ {A = ℕ} 0 1 = cc in omega arith)
 
-module _ (k st st' : List ℕ) (x : Head) (h : Header) (p : x ≡ head_of st) (g : x ≡ Good h) (short : length k ≤ key_limit) (bytes : (i : ℕ) → Fits w8 (get_or k i 0))
-    (exit : (i : ℕ) → Fits w8 (get_or st' i 0)) (r : Changed) where
+module _ (k st st' : List ℕ) (x : Result Header NotAStore) (h : Header) (p : x ≡ head_of st) (g : x ≡ Ok h) (short : length k ≤ key_limit) (bytes : (i : ℕ) → Fits w8 (get_or k i 0))
+    (exit : (i : ℕ) → Fits w8 (get_or st' i 0)) (r : Result (Unit {0}) LookupError) where
   pub remove_done : Did (removed_in st h k) r st' → Remove layout k st st' (changed_reply r)
   remove_done d =
       change_done k st st' x h p g short exit (removed_in st h k) (remove_changes st h (blocks st x h p g) (find_in st h k) (find_stands st h k (bytes_of k bytes))) r d (λ m. with_map m (del k m.map))
       (λ m w. remove_root k w.tree)
       (λ m w. subst (λ (z : Header). Means_by st k w.tree (remove_root k w.tree) (removed_in st z k)) (sym (headed st x h p g).right.is) (remove_by st k w.tree w.accepted))
       (λ m w n u. remove_after layout lawful st st' m k w u)
-
--- ---- what a lookup found lies in the store
-
-pub found_below : (cap : ℕ) (z : Exact) (n : LeafNo) (s : Step) → Stands cap z → z ≡ Exact.Leaf n s → n.0 < cap
-found_below cap z n s q e = (subst (Stands cap) e q).0
-
-pub found_at : (cap : ℕ) (z : Exact) (n : LeafNo) (s : Step) → Stands cap z → z ≡ Exact.Leaf n s → Within cap s.at
-found_at cap z n s q e = (subst (Stands cap) e q).1
-
-pub found_above : (cap : ℕ) (z : Exact) (n : LeafNo) (s : Step) → Stands cap z → z ≡ Exact.Leaf n s → Within cap s.above
-found_above cap z n s q e = (subst (Stands cap) e q).2

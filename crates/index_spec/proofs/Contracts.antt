@@ -1,7 +1,7 @@
 -- A law for each way out of a public call: from what its callees do to the bytes to its promise. Assumes nothing.
 use Prim.Native.Nat.{ℕ, ◌≤◌, ◌<◌}
 use mathlib.Core.Path.{◌≡◌, refl, sym, ap, subst, ◌∙◌}
-use mathlib.Core.Bool.{false}
+use mathlib.Core.Bool.{Bool, true, false}
 use mathlib.Core.List.{List}
 use mathlib.Core.Option.{Option, none, some}
 use native.Mathlib.Omega.{arith}
@@ -21,10 +21,7 @@ use Rattle.promises.specs.Promises.{Kind, is_empty_kinds, set_limit_kinds, Creat
 use Rattle.promises.proofs.Bridge.{is_none, is_empty_lem}
 use Rattle.node.specs.Header.{head_in, head_of, set_head}
 use Rattle.records.specs.Create.{made_of, created, Created}
-use Rattle.records.specs.declared.create.Made.{Made}
 use Rattle.node.specs.declared.header.Header.{Header}
-use Rattle.node.specs.declared.header.Head.{Head}
-use Rattle.node.specs.declared.header.Head.TheVariants.{Good, Bad}
 use Rattle.records.proofs.CreateLaws.{create_length, create_past, create_head}
 use Rattle.node.proofs.HeaderLaws.{good_right, length_head, past_stays}
 use Rattle.trie_spec.specs.Accepted.{Accepted}
@@ -32,10 +29,13 @@ use Rattle.trie_spec.proofs.AcceptedLaws.{no_leaves, leaf_count_lem}
 use Rattle.trie_spec.proofs.CreateLaws.{create_accepted}
 use Rattle.index_spec.specs.Layout.{layout, with_limit}
 use Rattle.index_spec.specs.Replies.{create_reply, empty_reply, empty_of, limit_reply}
-use Rattle.index_spec.specs.declared.is_empty.Empty.{Empty}
-use Rattle.index_spec.specs.declared.set_limit.Limited.{Limited}
 use Rattle.index_spec.proofs.HeadLaws.{headed, not_wrong, reads_bad, writes_bad}
 use Rattle.index_spec.proofs.LimitLaws.{limit_head, limit_accepted}
+use Rattle.std.specs.Prelude.{Result, Ok, Err}
+use Rattle.node.specs.declared.NotAStore.{NotAStore}
+use Rattle.node.specs.NotAStore.{not_a_store}
+use Rattle.records.specs.Create.{no_room}
+use Rattle.records.specs.declared.create.NoRoom.{NoRoom}
 
 -- ---- create
 
@@ -62,72 +62,66 @@ create_long limit st long small bytes = record {
   };
 }
 
-pub create_promise : (limit : ℕ) (st st' : List ℕ) (r : Made) → Created limit st st' r → Fits w16 limit → ((i : ℕ) → Fits w8 (get_or st' i 0))
+pub create_promise : (limit : ℕ) (st st' : List ℕ) (r : Result (Unit {0}) NoRoom) → Created limit st st' r → Fits w16 limit → ((i : ℕ) → Fits w8 (get_or st' i 0))
     → Create layout limit st st' (create_reply r)
 create_promise limit st st' r w small bytes = go (dec_lt (length st) least_size)
   where
     go : Dec (length st < least_size) → Create layout limit st st' (create_reply r)
     go (yes h) =
-        let q : r ≡ Made.Room = w.answer ∙ ap made_of (lt-ltb (length st) least_size h) in
+        let q : r ≡ (Err no_room) = w.answer ∙ ap made_of (lt-ltb (length st) least_size h) in
         let e : st' ≡ st = w.bytes ∙ rw (lt-ltb (length st) least_size h) in
         rw (q, e) (create_short limit st h)
     go (no h) =
         let long : least_size ≤ length st = omega arith in
-        let q : r ≡ Made.Done = w.answer ∙ ap made_of (le-ltb (length st) least_size long) in
+        let q : r ≡ (Ok tt) = w.answer ∙ ap made_of (le-ltb (length st) least_size long) in
         let e : st' ≡ created limit st = w.bytes ∙ rw (le-ltb (length st) least_size long) in
         rw (q, e) (create_long limit st long small.fits (subst (λ (z : List ℕ). (i : ℕ) → Fits w8 (get_or z i 0)) e bytes))
 
 -- ---- is_empty
 
-empty_kind : (r : Empty) → Kind is_empty_kinds (empty_reply r)
-empty_kind Empty.Yes = record { among = refl; value = λ q. absurd (omega arith); count = λ q. refl; end = λ q. refl }
-empty_kind Empty.No = record { among = refl; value = λ q. refl; count = λ q. refl; end = λ q. refl }
-empty_kind Empty.Store = record { among = refl; value = λ q. refl; count = λ q. refl; end = λ q. refl }
-
-pub empty_yes : (n : ℕ) → n ≡ 0 → Empty.Yes ≡ empty_of n
-empty_yes n e = rw (eq-eqb n 0 e)
-
-pub empty_no : (n : ℕ) → (n ≡ 0 → ⊥) → Empty.No ≡ empty_of n
-empty_no n d = rw (ne_eqb n 0 d)
+empty_kind : (r : Result Bool NotAStore) → Kind is_empty_kinds (empty_reply r)
+empty_kind (Ok true) = record { among = refl; value = λ q. absurd (omega arith); count = λ q. refl; end = λ q. refl }
+empty_kind (Ok false) = record { among = refl; value = λ q. refl; count = λ q. refl; end = λ q. refl }
+empty_kind (Err e) = record { among = refl; value = λ q. refl; count = λ q. refl; end = λ q. refl }
 
 -- whether a store has no key is whether its header counts no leaf
 empty_is : (st : List ℕ) (o : Option Tree) → Accepted st o
-    → empty_reply (empty_of (head_in st).leaves) ≡ record { answer = number DONE; value = is_none o; count = 0; end = false }
+    → empty_reply (Ok (empty_of (head_in st).leaves)) ≡ record { answer = number DONE; value = is_none o; count = 0; end = false }
 empty_is st none a = rw (eq-eqb (head_in st).leaves 0 (no_leaves st a))
 empty_is st (some t) a = rw (ne_eqb (head_in st).leaves 0 (λ e. omega (arith, leaf_count_lem st t a, leaves_length t, listing_some t a.picture)))
 
-pub empty_good : (st : List ℕ) (x : Head) (h : Header) (r : Empty) → x ≡ head_of st → x ≡ Good h → r ≡ empty_of h.leaves → IsEmpty layout st (empty_reply r)
+pub empty_good : (st : List ℕ) (x : Result Header NotAStore) (h : Header) (r : Bool) → x ≡ head_of st → x ≡ Ok h → r ≡ empty_of h.leaves → IsEmpty layout st (empty_reply (Ok r))
 empty_good st x h r p g q = record {
-  kind = empty_kind r;
+  kind = empty_kind (Ok r);
   wrong = λ w. absurd (not_wrong st h (headed st x h p g) w);
   answers = λ m w.
-      ap empty_reply (q ∙ ap (λ (z : Header). empty_of z.leaves) (good_right st h (sym e)).is)
+      ap (λ (b : Bool). empty_reply (Ok b)) (q ∙ ap (λ (z : Header). empty_of z.leaves) (good_right st h (sym e)).is)
       ∙ empty_is st w.tree w.accepted
       ∙ ap (λ (n : ℕ). record { answer = number DONE; value = n; count = 0; end = false }) (sym (is_empty_lem w.tree w.accepted.picture) ∙ ap is_nothing w.map);
 }
   where
-    e : Good h ≡ head_of st
+    e : Ok h ≡ head_of st
     e = sym g ∙ p
 
-pub empty_bad : (st : List ℕ) (x : Head) → x ≡ head_of st → x ≡ Bad → IsEmpty layout st (empty_reply Empty.Store)
-empty_bad st x p b = reads_bad st x p b is_empty_kinds is_empty_says (empty_kind Empty.Store)
+pub empty_bad : (st : List ℕ) (x : Result Header NotAStore) → x ≡ head_of st → x ≡ Err not_a_store → IsEmpty layout st (empty_reply (Err not_a_store))
+empty_bad st x p b = reads_bad st x p b is_empty_kinds is_empty_says (empty_kind (Err not_a_store))
 
 -- ---- set_limit
 
-limit_kind : (r : Limited) → Kind set_limit_kinds (limit_reply r)
-limit_kind Limited.Done = record { among = refl; value = λ q. refl; count = λ q. refl; end = λ q. refl }
-limit_kind Limited.Store = record { among = refl; value = λ q. refl; count = λ q. refl; end = λ q. refl }
+limit_kind : (r : Result (Unit {0}) NotAStore) → Kind set_limit_kinds (limit_reply r)
+limit_kind (Ok u) = record { among = refl; value = λ q. refl; count = λ q. refl; end = λ q. refl }
+limit_kind (Err e) = record { among = refl; value = λ q. refl; count = λ q. refl; end = λ q. refl }
 
 -- the header that is written is in the slice
-pub limit_room : (st : List ℕ) (x : Head) (h : Header) → x ≡ head_of st → x ≡ Good h → header_size ≤ length st
+pub limit_room : (st : List ℕ) (x : Result Header NotAStore) (h : Header) → x ≡ head_of st → x ≡ Ok h → header_size ≤ length st
 limit_room st x h p g = omega (arith, (good_right st h (sym p ∙ g)).long)
 
-pub limit_good : (limit : ℕ) (st st' : List ℕ) (x : Head) (h : Header) → x ≡ head_of st → x ≡ Good h → st' ≡ set_head st (with_limit h limit) → Fits w16 limit
-    → ((i : ℕ) → Fits w8 (get_or st' i 0)) → SetLimit layout limit st st' (limit_reply Limited.Done)
+pub limit_good : (limit : ℕ) (st st' : List ℕ) (x : Result Header NotAStore) (h : Header) → x ≡ head_of st → x ≡ Ok h → st' ≡ set_head st (with_limit h limit) → Fits w16 limit
+    → ((i : ℕ) → Fits w8 (get_or st' i 0)) → SetLimit layout limit st st' (limit_reply (Ok tt))
 limit_good limit st st' x h p g q small bytes = record {
   kept = record { size = size; refused = λ l. absurd (omega arith) };
   rest = rw q (past_stays st (with_limit h limit) (capacity_of (length st)));
-  kind = limit_kind Limited.Done;
+  kind = limit_kind (Ok tt);
   wrong = λ w. absurd (not_wrong st h (headed st x h p g) w);
   answers = λ m w. refl;
   after = λ m w. record {
@@ -140,7 +134,7 @@ limit_good limit st st' x h p g q small bytes = record {
   };
 }
   where
-    e : Good h ≡ head_of st
+    e : Ok h ≡ head_of st
     e = sym g ∙ p
 
     size : length st' ≡ length st
@@ -149,5 +143,5 @@ limit_good limit st st' x h p g q small bytes = record {
     is : st' ≡ set_head st (with_limit (head_in st) limit)
     is = q ∙ ap (λ (z : Header). set_head st (with_limit z limit)) (good_right st h (sym e)).is
 
-pub limit_bad : (limit : ℕ) (st : List ℕ) (x : Head) → x ≡ head_of st → x ≡ Bad → SetLimit layout limit st st (limit_reply Limited.Store)
-limit_bad limit st x p b = writes_bad st x p b set_limit_kinds (set_limit_says limit) (limit_kind Limited.Store)
+pub limit_bad : (limit : ℕ) (st : List ℕ) (x : Result Header NotAStore) → x ≡ head_of st → x ≡ Err not_a_store → SetLimit layout limit st st (limit_reply (Err not_a_store))
+limit_bad limit st x p b = writes_bad st x p b set_limit_kinds (set_limit_says limit) (limit_kind (Err not_a_store))

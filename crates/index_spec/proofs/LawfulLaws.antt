@@ -17,22 +17,22 @@ use Rattle.promises.specs.Meaning.{Lawful}
 use Rattle.node.specs.Header.{head_in, head_of}
 use Rattle.node.specs.Leaf.{leaf_in}
 use Rattle.node.specs.declared.header.Header.{Header}
-use Rattle.node.specs.declared.header.Head.{Head}
-use Rattle.node.specs.declared.header.Head.TheVariants.{Good, Bad}
 use Rattle.node.proofs.HeaderLaws.{Right, good_right}
 use Rattle.trie_spec.specs.Accepted.{memory_of, Accepted}
 use Rattle.trie_spec.proofs.AcceptedLaws.{right, capacity_is, inside, leaf_count_lem, limit_fits, value_fits}
 use Rattle.index_spec.specs.Layout.{is_good, layout}
 use Rattle.index_spec.proofs.UsedLaws.{byte_same, head_same, header_same, head_in_same, accepted_same}
+use Rattle.std.specs.Prelude.{Result, Ok, Err}
+use Rattle.node.specs.declared.NotAStore.{NotAStore}
 
 -- ---- the header
 
-pub good_is : (st : List ℕ) → is_good (head_of st) ≡ true → head_of st ≡ Good (head_in st)
+pub good_is : (st : List ℕ) → is_good (head_of st) ≡ true → head_of st ≡ Ok (head_in st)
 good_is st e = go (head_of st) refl e
   where
-    go : (x : Head) → head_of st ≡ x → is_good x ≡ true → head_of st ≡ Good (head_in st)
-    go (Good h) q g = q ∙ ap Good (good_right st h q).is
-    go Bad q g = absurd (true≢false (sym g))
+    go : (x : Result Header NotAStore) → head_of st ≡ x → is_good x ≡ true → head_of st ≡ Ok (head_in st)
+    go (Ok h) q g = q ∙ ap Ok (good_right st h q).is
+    go (Err x) q g = absurd (true≢false (sym g))
 
 pub right_is : (st : List ℕ) → is_good (head_of st) ≡ true → Right st (head_in st)
 right_is st e = good_right st (head_in st) (good_is st e)

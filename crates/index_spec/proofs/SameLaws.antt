@@ -18,11 +18,11 @@ use Rattle.node.specs.Leaf.{Leaf, Is, leaf_in}
 use Rattle.node.specs.Branch.{array_in}
 use Rattle.records.specs.Chain.{Free, leaves as leaf_kind, branches as branch_kind}
 use Rattle.node.specs.declared.header.Header.{Header}
-use Rattle.node.specs.declared.header.Head.TheVariants.{Good}
 use Rattle.trie_spec.specs.Accepted.{memory_of, leaf_uses, branch_uses, Rooted, Accepted}
 use Rattle.trie_spec.proofs.AcceptedLaws.{few_last, inside}
 use Rattle.trie_spec.proofs.InsertLaws.{leaf_free_same, branch_free_same, branch_next_same}
 use Rattle.index_spec.specs.Layout.{with_limit}
+use Rattle.std.specs.Prelude.{Ok}
 
 -- the records below the capacity, and the header
 pub record Same (st su : List ℕ) (limit : ℕ) : Type 0 where
@@ -61,7 +61,7 @@ module _ (st su : List ℕ) (limit : ℕ) (s : Same st su limit) where
         (λ n f. branch_next_same st su n (s.array n f.0))
         (λ n f. (f.0, sym (branch_free_same st su n (s.array n f.0)) ∙ f.1))
 
-    pub same_accepted : ((i : ℕ) → i < used su → get_or su i 0 < 256) → head_of su ≡ Good (head_in su) → Accepted su o
+    pub same_accepted : ((i : ℕ) → i < used su → get_or su i 0 < 256) → head_of su ≡ Ok (head_in su) → Accepted su o
     same_accepted bytes good = record {
       bytes = bytes;
       head = good;

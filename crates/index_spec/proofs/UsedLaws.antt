@@ -15,11 +15,11 @@ use Rattle.model.specs.Picture.{Tree}
 use Rattle.fields.specs.Number.{little}
 use Rattle.fields.proofs.NumberLaws.{little_agree}
 use Rattle.node.specs.Header.{mark_in, head_in, head_of}
-use Rattle.node.specs.declared.header.Head.TheVariants.{Good}
 use Rattle.trie_spec.specs.Accepted.{Accepted}
 use Rattle.trie_spec.proofs.AcceptedLaws.{right, capacity_is}
 use Rattle.trie_spec.proofs.UnreadLaws.{Alike, leaf_alike, array_alike}
 use Rattle.index_spec.proofs.SameLaws.{same_accepted}
+use Rattle.std.specs.Prelude.{Ok}
 
 -- bytes of the same start
 pub byte_same : (n : ℕ) (st su : List ℕ) → take n st ≡ take n su → (i : ℕ) → i < n → get_or st i 0 ≡ get_or su i 0
@@ -89,4 +89,4 @@ module _ (st su : List ℕ) (e : used st ≡ used su) (p : take (used st) st ≡
       })
       o a
       (λ i h. subst (λ (z : ℕ). z < 256) (same i (omega (arith, e))) (a.bytes i (omega (arith, e))))
-      (sym header_same ∙ a.head ∙ ap Good head_in_same)
+      (sym header_same ∙ a.head ∙ ap Ok head_in_same)

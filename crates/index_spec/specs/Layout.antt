@@ -1,17 +1,16 @@
 -- What the promises take as given: when a header is right, the limit in it, and when a store is accepted.
 -- Assumes nothing.
-use Rattle.std.specs.Prelude.{ℕ, Bool, true, false}
+use Rattle.std.specs.Prelude.{ℕ, Bool, true, false, Result, Ok, Err}
 use Rattle.promises.specs.Meaning.{Layout}
 use Rattle.node.specs.Header.{header, head_in, head_of}
 use Rattle.node.specs.declared.header.Header.{Header}
-use Rattle.node.specs.declared.header.Head.{Head}
-use Rattle.node.specs.declared.header.Head.TheVariants.{Good, Bad}
+use Rattle.node.specs.declared.NotAStore.{NotAStore}
 use Rattle.trie_spec.specs.Accepted.{Accepted}
 
 -- not "where the slice is too short or the header is wrong"
-abbrev pub is_good : Head → Bool
-is_good (Good h) = true
-is_good Bad = false
+abbrev pub is_good : Result Header NotAStore → Bool
+is_good (Ok h) = true
+is_good (Err e) = false
 
 abbrev pub layout : Layout
 layout = record { header = λ st. is_good (head_of st); limit = λ st. (head_in st).limit; Accepted = λ st o. Accepted st o }

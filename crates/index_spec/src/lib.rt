@@ -1,10 +1,7 @@
-// What each call of the public face answers and does, on any bytes: its answers, the layout that the promises are taken at, definitions, and the laws
+// What each call of the public face answers and does, on any bytes: its refusals, the layout that the promises are taken at, definitions, and the laws
 // by which they keep the promises. The crates store_calls, key_calls and page_calls have the code.
 #![tactic(auto)]
 
-pub mod changed;
-pub mod get;
 pub mod insert;
-pub mod is_empty;
 pub mod pages;
-pub mod set_limit;
+pub mod stored;

@@ -17,21 +17,20 @@ use Rattle.fields.proofs.PartLaws.{length_splice}
 use Rattle.node.specs.Child.{link_of}
 use Rattle.node.specs.Leaf.{leaf_in}
 use Rattle.node.specs.declared.child.Link.{Link}
-use Rattle.node.specs.declared.child.Linked.{Linked}
-use Rattle.node.specs.declared.child.Linked.TheVariants.{To, Absent, Wrong as WrongLink}
 use Rattle.node.specs.declared.header.Header.{Header}
-use Rattle.trie_spec.specs.Walk.{depth, steps, link_in, on_linked, walk, near, first}
+use Rattle.trie_spec.specs.Walk.{depth, steps, link_in, on_root, walk, near, first}
 use Rattle.trie_spec.specs.Writes.{Outcome, outcome, on_closest}
 use Rattle.trie_spec.specs.declared.descent.Walked.{Walked}
-use Rattle.trie_spec.specs.declared.descent.Walked.TheVariants.{At, Missing, Wrong as NoTree}
+use Rattle.trie_spec.specs.declared.descent.Walked.TheVariants.{At, Missing}
 use Rattle.trie_spec.specs.declared.descent.Closest.{Closest}
-use Rattle.trie_spec.specs.declared.descent.Closest.TheVariants.{Leaf, Wrong as NoLeaf}
 use Rattle.walk.specs.Walk.{Met, after, Sheet, is_stopped, add, put, puts}
-use Rattle.iterator.specs.Page.{nothing, listed_of, blank, listed, list_past, list_beside, list_under, on_walked, list_from, list_in}
+use Rattle.iterator.specs.Page.{page, nothing, listed_of, blank, listed, list_past, list_beside, list_under, on_walked, list_from, list_in}
 use Rattle.walk.specs.declared.walk.Stop.{Stop}
 use Rattle.walk.specs.declared.walk.Stop.TheVariants.{Going, Further, Wrong as WentWrong}
-use Rattle.iterator.specs.declared.page.Listed.{Listed}
-use Rattle.iterator.specs.declared.page.Listed.TheVariants.{Page, Wrong}
+use Rattle.std.specs.Prelude.{Result, Ok, Err}
+use Rattle.node.specs.declared.NotAStore.{NotAStore}
+use Rattle.node.specs.NotAStore.{not_a_store}
+use Rattle.iterator.specs.declared.page.Page.{Page}
 
 -- ---- what is written
 
@@ -66,20 +65,20 @@ puts_keeps (x ∷ xs) s =
 
 -- ---- a page
 
-pub record Decent (out : List ℕ) (o : Outcome Listed) : Type 0 where
+pub record Decent (out : List ℕ) (o : Outcome (Result Page NotAStore)) : Type 0 where
   pub size : length o.bytes ≡ length out
-  pub refused : o.answer ≡ Wrong → o.bytes ≡ out
+  pub refused : o.answer ≡ Err not_a_store → o.bytes ≡ out
 
-unwritten : (out : List ℕ) (a : Listed) → Decent out (outcome a out)
+unwritten : (out : List ℕ) (a : Result Page NotAStore) → Decent out (outcome a out)
 unwritten out a = record { size = refl; refused = λ e. refl }
 
 -- a page that is refused has given nothing
-refused_left : (n at left : ℕ) (stop : Stop) → left ≤ n → listed_of n at left stop ≡ Wrong → left ≡ n
+refused_left : (n at left : ℕ) (stop : Stop) → left ≤ n → listed_of n at left stop ≡ Err not_a_store → left ≡ n
 refused_left n at left Going h e = absurd (let z : ◌≡◌ {A = ℕ} 0 1 = cc in omega arith)
 refused_left n at left Further h e = absurd (let z : ◌≡◌ {A = ℕ} 0 1 = cc in omega arith)
 refused_left n at left WentWrong h e = go (eqb (n - left) 0) refl e
   where
-    go : (b : Bool) → eqb (n - left) 0 ≡ b → cond b Wrong (Page (n - left) at false) ≡ Wrong → left ≡ n
+    go : (b : Bool) → eqb (n - left) 0 ≡ b → cond b (Err not_a_store) (Ok (page (n - left) at false)) ≡ Err not_a_store → left ≡ n
     go true z e = omega (arith, eqb-true (n - left) 0 z)
     go false z e = absurd (let y : ◌≡◌ {A = ℕ} 0 1 = cc in omega arith)
 
@@ -93,27 +92,26 @@ module _ (st q b : List ℕ) (too : Bool) (n : ℕ) (out : List ℕ) where
   beside_decent : (cap : ℕ) (l : Link) (k : List ℕ) → Decent out (list_beside st cap q b too n out l k)
   beside_decent cap l k = go (starts_with q k)
     where
-      go : (s : Bool) → Decent out (cond s (list_past st cap b too n out l k) (outcome nothing out))
+      go : (s : Bool) → Decent out (cond s (list_past st cap b too n out l k) (outcome (Ok nothing) out))
       go true = walked_decent n out (after st cap b (critical b k) (passes too b k) depth l)
-      go false = unwritten out nothing
+      go false = unwritten out (Ok nothing)
 
   under_decent : (cap : ℕ) (l : Link) → Decent out (list_under st cap q b too n out l)
   under_decent cap l = go (near st cap b steps 0 l)
     where
-      go : (c : Closest) → Decent out (on_closest (λ m d. list_beside st cap q b too n out l (leaf_in st m).key) (outcome Wrong out) c)
-      go (Leaf m d) = beside_decent cap l (leaf_in st m.0).key
-      go NoLeaf = unwritten out Wrong
+      go : (c : Result Closest NotAStore) → Decent out (on_closest (λ m d. list_beside st cap q b too n out l (leaf_in st m).key) (outcome (Err not_a_store) out) c)
+      go (Ok c) = beside_decent cap l (leaf_in st c.leaf.0).key
+      go (Err e) = unwritten out (Err not_a_store)
 
-  walk_decent : (cap : ℕ) (w : Walked) → Decent out (on_walked st cap q b too n out w)
-  walk_decent cap (At c s) = under_decent cap (link_in s)
-  walk_decent cap (Missing m s) = unwritten out nothing
-  walk_decent cap NoTree = unwritten out Wrong
+  walk_decent : (cap : ℕ) (w : Result Walked NotAStore) → Decent out (on_walked st cap q b too n out w)
+  walk_decent cap (Ok (At c s)) = under_decent cap (link_in s)
+  walk_decent cap (Ok (Missing m s)) = unwritten out (Ok nothing)
+  walk_decent cap (Err e) = unwritten out (Err e)
 
   pub page_decent : (h : Header) → Decent out (list_in st h q b too n out)
   page_decent h = go (eqb h.leaves 0) (link_of h.capacity h.root)
     where
-      go : (e : Bool) (l : Linked) → Decent out (cond e (outcome nothing out) (on_linked (λ root. list_from st h.capacity q b too n out root) (outcome Wrong out) (outcome Wrong out) l))
-      go true l = unwritten out nothing
-      go false (To m) = walk_decent h.capacity (walk st h.capacity q (2 * length q) steps (first m))
-      go false Absent = unwritten out Wrong
-      go false WrongLink = unwritten out Wrong
+      go : (e : Bool) (l : Result Link NotAStore) → Decent out (cond e (outcome (Ok nothing) out) (on_root (λ root. list_from st h.capacity q b too n out root) (outcome (Err not_a_store) out) l))
+      go true l = unwritten out (Ok nothing)
+      go false (Ok m) = walk_decent h.capacity (walk st h.capacity q (2 * length q) steps (first m))
+      go false (Err e) = unwritten out (Err not_a_store)

@@ -34,22 +34,24 @@ use Rattle.trie_spec.specs.declared.descent.Walked.{Walked}
 use Rattle.trie_spec.proofs.AcceptedLaws.{few, inside, leaf_count_lem, no_leaves, root_link}
 use Rattle.trie_spec.proofs.HeldLaws.{Inside, walks, hits}
 use Rattle.walk.specs.Walk.{Met, puts}
-use Rattle.iterator.specs.Page.{nothing, blank, listed, list_past, list_beside, list_under, on_walked, list_from, list_in}
+use Rattle.iterator.specs.Page.{page, nothing, blank, listed, list_past, list_beside, list_under, on_walked, list_from, list_in}
 use Rattle.walk.specs.declared.walk.Stop.TheVariants.{Going, Further}
-use Rattle.iterator.specs.declared.page.Listed.{Listed}
-use Rattle.iterator.specs.declared.page.Listed.TheVariants.{Page, Wrong}
+use Rattle.std.specs.Prelude.{Result, Ok, Err}
+use Rattle.node.specs.declared.NotAStore.{NotAStore}
+use Rattle.node.specs.NotAStore.{not_a_store}
+use Rattle.iterator.specs.declared.page.Page.{Page}
 use Rattle.walk.proofs.HeldLaws.{given, after_tree}
 use Rattle.iterator.proofs.SeekLaws.{Ends, seek_ends}
 use Rattle.walk.proofs.TakeLaws.{take_given}
 
 -- The page of n entries that these are chosen from.
-abbrev pub paged : ℕ → List Entry → List ℕ → Outcome Listed
-paged n es out = outcome (Page (length (take n es)) (length (entries_bytes (take n es))) (leb (length es) n)) (splice out 0 (entries_bytes (take n es)))
+abbrev pub paged : ℕ → List Entry → List ℕ → Outcome (Result Page NotAStore)
+paged n es out = outcome (Ok (page (length (take n es)) (length (entries_bytes (take n es))) (leb (length es) n))) (splice out 0 (entries_bytes (take n es)))
 
-paged_none : (n : ℕ) (out : List ℕ) → outcome nothing out ≡ paged n [] out
+paged_none : (n : ℕ) (out : List ℕ) → outcome (Ok nothing) out ≡ paged n [] out
 paged_none n out = go n
   where
-    go : (m : ℕ) → outcome nothing out ≡ paged m [] out
+    go : (m : ℕ) → outcome (Ok nothing) out ≡ paged m [] out
     go zero = rw (le-leb 0 0 (omega arith), splice_nil out 0)
     go (suc m) = rw (le-leb 0 (suc m) (omega arith), splice_nil out 0)
 
@@ -62,7 +64,7 @@ paged_some n es out = ap (listed n) (take_given es out 0 n) ∙ go (leb (length 
 
     go : (b : Bool) → leb (length es) n ≡ b
         → listed n (cond b (record { out = splice out 0 (entries_bytes es); at = 0 + bytes es; left = n - length es; stop = Going }) (record { out = splice out 0 (entries_bytes (take n es)); at = 0 + bytes (take n es); left = 0; stop = Further }))
-        ≡ outcome (Page (length (take n es)) (bytes (take n es)) b) (splice out 0 (entries_bytes (take n es)))
+        ≡ outcome (Ok (page (length (take n es)) (bytes (take n es)) b)) (splice out 0 (entries_bytes (take n es)))
     go true e =
         let all : take n es ≡ es = page_last n es e in
         let c : n - (n - length es) ≡ length es = omega (arith, leb-true (length es) n e) in
@@ -78,7 +80,7 @@ module _ (st q b : List ℕ) (too : Bool) (n : ℕ) (out : List ℕ) where
   -- below the subtree that the prefix leads to
   under_means : (cap : ℕ) (f : cap ≤ most) (u : Tree) → Reached q u → Holds (memory_of st) u → Inside st cap f u → list_under st cap q b too n out (link_to (root u)) ≡ paged n (after_in q too b (some u)) out
   under_means cap f u r h i =
-      ap (on_closest (λ m d. list_beside st cap q b too n out (link_to (root u)) (leaf_in st m).key) (outcome Wrong out))
+      ap (on_closest (λ m d. list_beside st cap q b too n out (link_to (root u)) (leaf_in st m).key) (outcome (Err not_a_store) out))
       (walks st cap f b u h r.picture i steps 0 (omega (arith, depth_bound b u r.picture)))
       ∙ ap (list_beside st cap q b too n out (link_to (root u))) (hits st cap f b u h r.picture).1.key
       ∙ by (starts_with q (closest b u).key)
@@ -92,7 +94,7 @@ module _ (st q b : List ℕ) (too : Bool) (n : ℕ) (out : List ℕ) where
           (after_tree st cap f b (critical b (closest b u).key) (passes too b (closest b u).key) u h r.picture i depth 0 (starts_zero u) (omega arith))
           ∙ paged_some n (after_t b (critical b (closest b u).key) (passes too b (closest b u).key) u) out
 
-      by : (s : Bool) → cond s (list_past st cap b too n out (link_to (root u)) (closest b u).key) (outcome nothing out)
+      by : (s : Bool) → cond s (list_past st cap b too n out (link_to (root u)) (closest b u).key) (outcome (Ok nothing) out)
           ≡ paged n (pick s (after_t b (critical b (closest b u).key) (passes too b (closest b u).key) u) []) out
       by true = past
       by false = paged_none n out
@@ -103,7 +105,7 @@ module _ (st q b : List ℕ) (too : Bool) (n : ℕ) (out : List ℕ) where
       go (seek q t) (walk st cap q (2 * length q) steps (first (link_to (root t)))) (seek_reached q t pic)
       (seek_ends st cap f q t h pic i 0 steps (starts_zero t) (omega arith) (omega arith) Root Root)
     where
-      go : (o : Option Tree) (w : Walked) → Reaches q o → Ends st cap f q o w → on_walked st cap q b too n out w ≡ paged n (after_in q too b o) out
+      go : (o : Option Tree) (w : Result Walked NotAStore) → Reaches q o → Ends st cap f q o w → on_walked st cap q b too n out w ≡ paged n (after_in q too b o) out
       go none w r (m, s, e) = ap (on_walked st cap q b too n out) e ∙ paged_none n out
       go (some u) w r (at, above, e, hu, iu) = ap (on_walked st cap q b too n out) e ∙ under_means cap f u r hu iu
 

@@ -17,7 +17,6 @@ use Rattle.pictures.specs.Prefix.{seek, seek_k}
 use Rattle.pictures.specs.Stored.{to_leaf, to_branch, root, Holds, At, here, there, Lacks}
 use Rattle.pictures.proofs.Children.{tree_ind, holds_at, picture_at, at_or_lacks}
 use Rattle.node.specs.declared.child.BranchNo.{BranchNo}
-use Rattle.node.specs.declared.child.Linked.TheVariants.{To, Absent}
 use Rattle.trie_spec.specs.Accepted.{link_to, memory_of}
 use Rattle.trie_spec.specs.Walk.{step, walk}
 use Rattle.trie_spec.specs.declared.descent.Spot.{Spot}
@@ -26,6 +25,8 @@ use Rattle.trie_spec.specs.declared.descent.Walked.{Walked}
 use Rattle.trie_spec.specs.declared.descent.Walked.TheVariants.{At as Reached, Missing}
 use Rattle.trie_spec.proofs.WalkLaws.{walk_leaf, walk_stop, walk_step}
 use Rattle.trie_spec.proofs.HeldLaws.{Inside, inside_at, link_at, link_lacks}
+use Rattle.std.specs.Prelude.{Result, Ok, Some, None}
+use Rattle.node.specs.declared.NotAStore.{NotAStore}
 
 module _ (q : List ℕ) where
   seek_at : {s : ℕ} {u : Tree} {ks : Kids} → At s u ks → seek_k q s ks ≡ seek q u
@@ -41,9 +42,9 @@ module _ (st : List ℕ) (cap : ℕ) (few : cap ≤ most) (q : List ℕ) where
   stop = 2 * length q
 
   -- where the way down ends: at a missing slot, or at the subtree, which the records hold
-  abbrev pub Ends : Option Tree → Walked → Type 0
-  Ends none w = (m : BranchNo) × (s : ℕ) × (w ≡ Missing m s)
-  Ends (some u) w = (at : Spot) × (above : Spot) × (w ≡ Reached (link_to (root u)).child (step (link_to (root u)) at above)) × Holds (memory_of st) u × Inside st cap few u
+  abbrev pub Ends : Option Tree → Result Walked NotAStore → Type 0
+  Ends none w = (m : BranchNo) × (s : ℕ) × (w ≡ Ok (Missing m s))
+  Ends (some u) w = (at : Spot) × (above : Spot) × (w ≡ Ok (Reached (link_to (root u)).child (step (link_to (root u)) at above))) × Holds (memory_of st) u × Inside st cap few u
 
   abbrev Goes : Tree → Type 0
   Goes t = Holds (memory_of st) t → Picture t → Inside st cap few t → (low f : ℕ) → StartsAt low t → low ≤ 2 * key_limit → 2 * key_limit < f + low → (at above : Spot)
@@ -60,14 +61,14 @@ module _ (st : List ℕ) (cap : ℕ) (few : cap ≤ most) (q : List ℕ) where
         let pu : Picture u = (picture_at p pic.0 a pic.1).0 in
         let iu : Inside st cap few u = inside_at st cap few a i in
         let found = link_at st cap few n p (nibble q p) ks u h a pu iu in
-        let w = walk_step st cap q stop (step (link_to (to_branch n p)) at above) f (record { 0 = n }) refl g (To (link_to (root u))) (sym found) in
+        let w = walk_step st cap q stop (step (link_to (to_branch n p)) at above) f (record { 0 = n }) refl g (Ok (Some (link_to (root u)))) (sym found) in
         rw (seek_at q a)
         (subst (Ends (seek q u)) (sym w)
         (ih (nibble q p) u a (holds_at (memory_of st) a h.1) pu iu (suc p) f (picture_at p pic.0 a pic.1).1 (omega (arith, place_bound n p ks pic)) (omega arith) (Under (record { 0 = n }) (nibble q p)) at))
     goes f b at above g (inr d) =
         let absent = link_lacks st cap few n p (nibble q p) ks h d in
         rw (seek_lacks q (nibble q p) ks d)
-        (record { 0 = n }, nibble q p, walk_step st cap q stop (step (link_to (to_branch n p)) at above) f (record { 0 = n }) refl g Absent (sym absent))
+        (record { 0 = n }, nibble q p, walk_step st cap q stop (step (link_to (to_branch n p)) at above) f (record { 0 = n }) refl g (Ok None) (sym absent))
 
     go_branch : (low f : ℕ) → low ≤ p → 2 * key_limit < f + low → (at above : Spot) → {o : Ordering} → Said p stop o
         → Ends (choose o (seek_k q (nibble q p) ks) (some (branch n p ks)) (some (branch n p ks))) (walk st cap q stop f (step (link_to (to_branch n p)) at above))

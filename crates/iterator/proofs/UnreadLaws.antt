@@ -11,38 +11,36 @@ use Rattle.model.specs.Key.{Bytes, starts_with}
 use Rattle.model.specs.Nibble.{nibble, critical}
 use Rattle.pictures.specs.After.{passes}
 use Rattle.bitmap.specs.Entries.{Entry as Item, lookup, below as place_of}
-use Rattle.node.specs.Child.{number_in, link_of}
+use Rattle.node.specs.Child.{number_in, link_of, Linked}
 use Rattle.node.specs.Leaf.{Leaf as LeafRecord, leaf_in}
 use Rattle.node.specs.Branch.{children_in, linked_in}
 use Rattle.node.specs.declared.child.Child.{Child}
 use Rattle.node.specs.declared.child.Child.TheVariants.{Leaf as LeafChild, Branch}
 use Rattle.node.specs.declared.child.Link.{Link}
-use Rattle.node.specs.declared.child.Linked.{Linked}
-use Rattle.node.specs.declared.child.Linked.TheVariants.{To, Absent, Wrong as WrongLink}
 use Rattle.node.specs.declared.header.Header.{Header}
 use Rattle.node.proofs.ChildLaws.{within}
-use Rattle.trie_spec.specs.Walk.{depth, steps, link_in, on_linked, on_node, walk, near, first, Lies}
+use Rattle.trie_spec.specs.Walk.{depth, steps, link_in, on_linked, on_root, on_node, walk, near, first, Lands}
 use Rattle.trie_spec.specs.Writes.{outcome, on_closest}
 use Rattle.trie_spec.specs.declared.descent.Walked.{Walked}
-use Rattle.trie_spec.specs.declared.descent.Walked.TheVariants.{At, Missing, Wrong as NoTree}
+use Rattle.trie_spec.specs.declared.descent.Walked.TheVariants.{At, Missing}
 use Rattle.trie_spec.specs.declared.descent.Closest.{Closest}
-use Rattle.trie_spec.specs.declared.descent.Closest.TheVariants.{Leaf, Wrong as NoLeaf}
 use Rattle.trie_spec.proofs.WalkLaws.{linked_below}
 use Rattle.trie_spec.proofs.KeepLaws.{walk_lies, Low, near_low}
 use Rattle.trie_spec.proofs.UnreadLaws.{Alike, leaf_alike, children_alike, walk_alike, near_alike}
 use Rattle.walk.specs.Walk.{entry_in, Met, nothing_right, kids, below, after, puts}
 use Rattle.iterator.specs.Page.{nothing, blank, listed, list_beside, list_under, on_walked, list_from, list_in}
-use Rattle.iterator.specs.declared.page.Listed.TheVariants.{Wrong}
+use Rattle.std.specs.Prelude.{Result, Ok, Err, Some, None}
+use Rattle.node.specs.declared.NotAStore.{NotAStore}
+use Rattle.node.specs.NotAStore.{not_a_store}
 
 kids_same : (cap : ℕ) (g h : Link → List Met) → ((m : Link) → number_in m.child < cap → g m ≡ h m) → (es : List Item) → kids cap g es ≡ kids cap h es
 unfolding kids
 kids_same cap g h same [] = refl
 kids_same cap g h same (e ∷ es) = ap₂ (λ (x : List Met) (y : List Met). x ++ y) (go (link_of cap e.1) refl) (kids_same cap g h same es)
   where
-    go : (l : Linked) → link_of cap e.1 ≡ l → on_linked g nothing_right nothing_right l ≡ on_linked h nothing_right nothing_right l
-    go (To m) q = same m (within cap e.1 m q)
-    go Absent q = refl
-    go WrongLink q = refl
+    go : (l : Result Link NotAStore) → link_of cap e.1 ≡ l → on_root g nothing_right l ≡ on_root h nothing_right l
+    go (Ok m) q = same m (within cap e.1 m q)
+    go (Err e) q = refl
 
 module _ {cap : ℕ} {st su : List ℕ} (a : Alike cap st su) where
   one_alike : (n : ℕ) → n < cap → some (entry_in su n) ∷ [] ≡ some (entry_in st n) ∷ []
@@ -87,9 +85,9 @@ module _ {cap : ℕ} {st su : List ℕ} (a : Alike cap st su) where
       inside sv cs x = on_linked (λ m. after sv cap b c up f m ++ below sv cap (suc f) (place_of s cs + 1) l) (below sv cap (suc f) (place_of s cs) l) nothing_right x
 
       by_link : (cs : List Item) (x : Linked) → linked_in cap s cs ≡ x → inside su cs x ≡ inside st cs x
-      by_link cs (To m) q = ap₂ (λ (x : List Met) (y : List Met). x ++ y) (rest m (linked_below cap (lookup s cs) m q)) (below_alike (suc f) (place_of s cs + 1) l hl)
-      by_link cs Absent q = below_alike (suc f) (place_of s cs) l hl
-      by_link cs WrongLink q = refl
+      by_link cs (Ok (Some m)) q = ap₂ (λ (x : List Met) (y : List Met). x ++ y) (rest m (linked_below cap (lookup s cs) m q)) (below_alike (suc f) (place_of s cs + 1) l hl)
+      by_link cs (Ok None) q = below_alike (suc f) (place_of s cs) l hl
+      by_link cs (Err e) q = refl
 
       abbrev branch_of : List ℕ → ℕ → List Met
       branch_of sv n = cond (leb l.position c) (inside sv (children_in sv n) (linked_in cap s (children_in sv n))) (cond up (below sv cap (suc f) 0 l) [])
@@ -118,21 +116,21 @@ module _ {cap : ℕ} {st su : List ℕ} (a : Alike cap st su) where
   module _ (q b : List ℕ) (qs : Bytes q) (bs : Bytes b) (too : Bool) (n : ℕ) (out : List ℕ) where
     under_alike : (l : Link) → number_in l.child < cap → list_under su cap q b too n out l ≡ list_under st cap q b too n out l
     under_alike l h =
-        ap (on_closest (λ m d. list_beside su cap q b too n out l (leaf_in su m).key) (outcome Wrong out)) (near_alike a b steps 0 l h)
+        ap (on_closest (λ m d. list_beside su cap q b too n out l (leaf_in su m).key) (outcome (Err not_a_store) out)) (near_alike a b steps 0 l h)
         ∙ go (near st cap b steps 0 l) (near_low st cap b bs steps 0 l h)
       where
-        go : (c : Closest) → Low st cap b bs c
-            → on_closest (λ m d. list_beside su cap q b too n out l (leaf_in su m).key) (outcome Wrong out) c ≡ on_closest (λ m d. list_beside st cap q b too n out l (leaf_in st m).key) (outcome Wrong out) c
-        go (Leaf m d) r =
-            ap (λ (x : LeafRecord). list_beside su cap q b too n out l x.key) (leaf_alike a m.0 r)
-            ∙ (let k = (leaf_in st m.0).key in
-            ap (λ (xs : List Met). cond (starts_with q k) (listed n (puts xs (blank out n))) (outcome nothing out)) (after_alike b (critical b k) (passes too b k) depth l h))
-        go NoLeaf r = refl
+        go : (c : Result Closest NotAStore) → Low st cap b bs c
+            → on_closest (λ m d. list_beside su cap q b too n out l (leaf_in su m).key) (outcome (Err not_a_store) out) c ≡ on_closest (λ m d. list_beside st cap q b too n out l (leaf_in st m).key) (outcome (Err not_a_store) out) c
+        go (Ok c) r =
+            ap (λ (x : LeafRecord). list_beside su cap q b too n out l x.key) (leaf_alike a c.leaf.0 r)
+            ∙ (let k = (leaf_in st c.leaf.0).key in
+            ap (λ (xs : List Met). cond (starts_with q k) (listed n (puts xs (blank out n))) (outcome (Ok nothing) out)) (after_alike b (critical b k) (passes too b k) depth l h))
+        go (Err e) r = refl
 
-    walked_alike : (w : Walked) → Lies cap w → on_walked su cap q b too n out w ≡ on_walked st cap q b too n out w
-    walked_alike (At c s) r = under_alike (link_in s) r.0
-    walked_alike (Missing m s) r = refl
-    walked_alike NoTree r = refl
+    walked_alike : (w : Result Walked NotAStore) → Lands cap w → on_walked su cap q b too n out w ≡ on_walked st cap q b too n out w
+    walked_alike (Ok (At c s)) r = under_alike (link_in s) r.0
+    walked_alike (Ok (Missing m s)) r = refl
+    walked_alike (Err e) r = refl
 
     from_alike : (root : Link) → number_in root.child < cap → list_from su cap q b too n out root ≡ list_from st cap q b too n out root
     from_alike root h =
@@ -142,10 +140,9 @@ module _ {cap : ℕ} {st su : List ℕ} (a : Alike cap st su) where
     pub page_alike : (h : Header) → h.capacity ≡ cap → list_in su h q b too n out ≡ list_in st h q b too n out
     page_alike h e = go (eqb h.leaves 0) (link_of h.capacity h.root) refl
       where
-        go : (o : Bool) (l : Linked) → link_of h.capacity h.root ≡ l
-            → cond o (outcome nothing out) (on_linked (λ root. list_from su h.capacity q b too n out root) (outcome Wrong out) (outcome Wrong out) l)
-            ≡ cond o (outcome nothing out) (on_linked (λ root. list_from st h.capacity q b too n out root) (outcome Wrong out) (outcome Wrong out) l)
+        go : (o : Bool) (l : Result Link NotAStore) → link_of h.capacity h.root ≡ l
+            → cond o (outcome (Ok nothing) out) (on_root (λ root. list_from su h.capacity q b too n out root) (outcome (Err not_a_store) out) l)
+            ≡ cond o (outcome (Ok nothing) out) (on_root (λ root. list_from st h.capacity q b too n out root) (outcome (Err not_a_store) out) l)
         go true l z = refl
-        go false (To m) z = rw e (from_alike m (subst (λ (y : ℕ). number_in m.child < y) e (within h.capacity h.root m z)))
-        go false Absent z = refl
-        go false WrongLink z = refl
+        go false (Ok m) z = rw e (from_alike m (subst (λ (y : ℕ). number_in m.child < y) e (within h.capacity h.root m z)))
+        go false (Err e) z = refl

@@ -1,4 +1,5 @@
 // A page: one way down to where the keys with the prefix stand, one to the closest leaf to the key that the page begins at, and a walk over what is given.
+// That the capacity fits the store stands in each contract: docs/TRACE.md names these functions, and a type that holds both would ask more of their callers.
 ghost use Rattle.std.specs.Prelude.{◌≡◌, ◌≤◌, ◌<◌, ◌*◌, length};
 ghost use Rattle.model.specs.Key.{key_limit, starts_with};
 ghost use Rattle.model.specs.Nibble.{critical as critical_of};
@@ -12,27 +13,25 @@ ghost use Rattle.iterator.specs.Page.{nothing, listed_of, list_past, list_under,
 
 use lookup::descent::{DEPTH, descend, find_closest_leaf};
 use lookup::keys::{critical, nibble};
-use node::child::{LeafNo, Link, Linked, link_of};
+use node::NotAStore;
+use node::child::{LeafNo, Link, link_of};
 use node::header::Header;
-use trie_spec::descent::{Closest, Walked};
+use trie_spec::descent::Walked;
 use walk::walk::{Progress, Stop, emit_after};
 
-#[derive(Clone, Copy)]
-pub enum Listed {
-    Page {
-        entries: usize,
-        bytes: usize,
-        end: bool,
-    },
-    // the store holds no tree
-    Wrong,
+// The entries given, the bytes that they take in the output, and whether no further one is stored.
+#[derive(Clone, Copy, Debug, PartialEq, Eq)]
+pub struct Page {
+    pub entries: usize,
+    pub bytes: usize,
+    pub end: bool,
 }
 
 // A page without an entry, after which there is none.
-fn no_entry() -> Listed
+fn no_entry() -> Page
     ensures { result ≡ nothing }
 {
-    Listed::Page {
+    Page {
         entries: 0,
         bytes: 0,
         end: true,
@@ -41,7 +40,7 @@ fn no_entry() -> Listed
 
 // What a walk that was to give n entries comes to. Where it met what no tree has, a page that has given entries cannot be refused any more, since a refusal
 // changes no byte; it does not say end.
-fn page_of(p: Progress, n: usize) -> Listed
+fn page_of(p: Progress, n: usize) -> Result<Page, NotAStore>
     requires { p.left ≤ n }
     ensures { result ≡ listed_of n p.at p.left p.stop }
 {
@@ -49,29 +48,30 @@ fn page_of(p: Progress, n: usize) -> Listed
     let entries = n - p.left;
     let bytes = p.at;
     match stop {
-        Stop::Going => Listed::Page {
+        Stop::Going => Ok(Page {
             entries,
             bytes,
             end: true,
-        },
-        Stop::Further => Listed::Page {
+        }),
+        Stop::Further => Ok(Page {
             entries,
             bytes,
             end: false,
-        },
+        }),
         Stop::Wrong => {
             if entries == 0 {
-                return Listed::Wrong;
+                return Err(NotAStore);
             }
-            Listed::Page {
+            Ok(Page {
                 entries,
                 bytes,
                 end: false,
-            }
+            })
         }
     }
 }
 
+// The model's word for it: the library's method speaks of tests of elements.
 fn starts_with(prefix: &[u8], key: &[u8]) -> bool
     ensures { result ≡ starts_with prefix.now key.now }
 {
@@ -104,7 +104,7 @@ fn list_past(
     link: Link,
     closest: LeafNo,
     out: &mut [u8],
-) -> Listed
+) -> Result<Page, NotAStore>
     requires { (start capacity ≤ length store.now) × (number_in link.child < capacity) × (closest.0 < capacity) × (length bound.now ≤ key_limit) × (entry_limit * n ≤ length out.old) }
     ensures { Did (list_past store.now capacity bound.now too n out.old link (leaf_in store.now closest.0).key) result out.new }
 {
@@ -130,17 +130,15 @@ fn list_under(
     n: usize,
     link: Link,
     out: &mut [u8],
-) -> Listed
+) -> Result<Page, NotAStore>
     requires { (start capacity ≤ length store.now) × (number_in link.child < capacity) × (length bound.now ≤ key_limit) × (entry_limit * n ≤ length out.old) }
     ensures { Did (list_under store.now capacity prefix.now bound.now too n out.old link) result out.new }
 {
-    let Closest::Leaf(leaf, _depth) = find_closest_leaf(store, capacity, bound, link) else {
-        return Listed::Wrong;
-    };
-    if starts_with(prefix, node::leaf::key(store, leaf)) {
-        return list_past(store, capacity, bound, too, n, link, leaf, out);
+    let closest = find_closest_leaf(store, capacity, bound, link)?;
+    if starts_with(prefix, node::leaf::key(store, closest.leaf)) {
+        return list_past(store, capacity, bound, too, n, link, closest.leaf, out);
     }
-    no_entry()
+    Ok(no_entry())
 }
 
 fn list_from(
@@ -152,19 +150,18 @@ fn list_from(
     n: usize,
     root: Link,
     out: &mut [u8],
-) -> Listed
+) -> Result<Page, NotAStore>
     requires { (start capacity ≤ length store.now) × (number_in root.child < capacity) × (length prefix.now ≤ key_limit) × (length bound.now ≤ key_limit) × (entry_limit * n ≤ length out.old) }
     ensures { Did (list_from store.now capacity prefix.now bound.now too n out.old root) result out.new }
 {
-    match descend(store, capacity, prefix, root, 2 * prefix.len()) {
+    match descend(store, capacity, prefix, root, 2 * prefix.len())? {
         Walked::At(_met, step) => {
             let child = step.child;
             let position = step.position;
             let link = Link { child, position };
             list_under(store, capacity, prefix, bound, too, n, link, out)
         }
-        Walked::Missing(_b, _s) => no_entry(),
-        Walked::Wrong => Listed::Wrong,
+        Walked::Missing(_b, _s) => Ok(no_entry()),
     }
 }
 
@@ -177,15 +174,13 @@ pub fn list(
     too: bool,
     n: usize,
     out: &mut [u8],
-) -> Listed
+) -> Result<Page, NotAStore>
     requires { (start h.capacity ≤ length store.now) × (length prefix.now ≤ key_limit) × (length bound.now ≤ key_limit) × (entry_limit * n ≤ length out.old) }
     ensures { Did (list_in store.now h prefix.now bound.now too n out.old) result out.new }
 {
     if h.leaves == 0 {
-        return no_entry();
+        return Ok(no_entry());
     }
-    let Linked::To(root) = link_of(h.root, h.capacity) else {
-        return Listed::Wrong;
-    };
+    let root = link_of(h.root, h.capacity)?;
     list_from(store, h.capacity, prefix, bound, too, n, root, out)
 }

@@ -1,7 +1,6 @@
 // The calls on one key: insert, get, overwrite, remove.
 #![tactic(auto)]
 
-pub mod changed;
 pub mod get;
 pub mod insert;
 pub mod overwrite;

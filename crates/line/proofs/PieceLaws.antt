@@ -12,23 +12,23 @@ use lib.ListN.{length, get_or, take, drop, set, length-append, drop_of_length-le
 use lib.Dec.{ltb, leb, eqb}
 use lib.Seq.{drop-cons, take-suc-set, length-take-le}
 use borrow.Author.Tests.{ltb-true, ltb-false, leb-true, leb-false, lt-ltb, le-ltb, le-leb, lt-leb, eq-eqb, ne_eqb}
+use Rattle.std.specs.Prelude
+use Rattle.std.specs.Prelude.{Some}
 use Rattle.promises.specs.Meaning.{Meaning}
 use Rattle.promises.specs.Says.{empty}
 use Rattle.line.specs.Line.{Line, bad, line_of, short_line}
 use Rattle.line.specs.Answer.{answer_line}
 use Rattle.line.specs.Run.{last_line, lines_from, answers, held_of, grow, held_line, Taken, more, ended, take_line, Feed, wrote, feed, finish, feed_all, joined, AnyPieces}
-use Rattle.line.specs.Code.{held_in, LineIs}
-use Rattle.line.specs.declared.pieces.Held.{Held}
-use Rattle.line.specs.declared.reading.Parsed.{Parsed}
+use Rattle.line.specs.Code.{held_in}
 
 -- ONE BYTE
 
-module _ (h : Held) (l : List ℕ) (c : ℕ) (short : h.over ≡ false) (room : 200 ≤ length l) where
-  pub hold_more : h.count < 200 → some (take (h.count + 1) (set l h.count c)) ≡ grow (held_in h l) c
-  hold_more s = rw (short, length-take-le h.count l (omega arith), lt-ltb h.count 200 s, add-one, take-suc-set l h.count c (omega arith))
+module _ (h : Prelude.Option ℕ) (l : List ℕ) (c : ℕ) {n : ℕ} (held : h ≡ Some n) (room : 200 ≤ length l) where
+  pub hold_more : n < 200 → some (take (n + 1) (set l n c)) ≡ grow (held_in h l) c
+  hold_more s = rw (held, length-take-le n l (omega arith), lt-ltb n 200 s, add-one, take-suc-set l n c (omega arith))
 
-  pub hold_over : 200 ≤ h.count → h.count ≤ 200 → none ≡ grow (held_in h l) c
-  hold_over s t = rw (short, length-take-le h.count l (omega arith), le-ltb h.count 200 s)
+  pub hold_over : 200 ≤ n → n ≤ 200 → none ≡ grow (held_in h l) c
+  hold_over s t = rw (held, length-take-le n l (omega arith), le-ltb n 200 s)
 
 -- A PIECE
 
@@ -45,9 +45,6 @@ pub take_step : (p : List ℕ) (i : ℕ) {y : Option (List ℕ)} (x : Option (Li
     → take_line y (drop (i + 1) p) ≡ t
 unfolding take_line
 take_step p i x h e f inv = rw (add-one, f) (rw (drop-cons p i 0 h, ne_eqb (get_or p i 0) 10 e) at inv)
-
-pub held_line_lem : (h : Held) (l : List ℕ) {b c : List ℕ} {r : Parsed} → h.over ≡ false → LineIs (short_line (take h.count l)) b c r → LineIs (held_line (held_in h l)) b c r
-held_line_lem h l e k = rw e k
 
 -- THE WHOLE FROM ITS PIECES
 

@@ -1,24 +1,35 @@
 -- Laws of reading keys and numbers: one for each return and each turn of the code that reads them.
 -- Assumes nothing.
-use Prim.Native.Nat.{ℕ, suc, ◌+◌, ◌*◌, ◌-◌, ◌^◌, ◌≤◌, ◌<◌}
+use Prim.Native.Nat.{ℕ, suc, ◌+◌, ◌*◌, ◌-◌, ◌%◌, ◌^◌, ◌≤◌, ◌<◌}
 use mathlib.Core.Path.{◌≡◌, refl, ap}
+use mathlib.Core.Bool.{Bool, true, false, cond, not}
 use mathlib.Core.List.{List, [], ◌∷◌, ◌++◌, append_assoc, append-nil}
 use mathlib.Core.Option.{Option, none, some}
 use native.Mathlib.Nat.{pow-suc, pow-le-pow_right, zero-lt-suc}
 use native.Mathlib.Omega.{arith}
 use native.Mathlib.Numerals.{add-one, add-two}
 use lib.ListN.{length, get_or, take, drop, set, drop_of_length-le}
+use lib.Dec.{ltb, eqb}
+use mathlib.Core.Logic.{◌⊎◌, inl, inr, ⊎_elim}
 use lib.Seq.{drop-cons, take-suc-set}
+use Rattle.std.specs.Prelude
+use Rattle.std.specs.Prelude.{◌≢◌, MatchOption, Some, None, Result, Ok, Err}
+use Rattle.std.specs.Result.{OkIff, result_ok}
+use Rattle.std.specs.List.{position, position_or_len}
+use Rattle.std.proofs.lemmas.List.Sums.{prefix_len-le-length}
+use Rattle.std.proofs.lemmas.List.Recursion.{is_position_or_len}
 use mir.Syntax.{w64}
 use mir.Val.{Fits}
-use borrow.Author.Tests.{lt-ltb, le-ltb, le-leb, lt-leb, eq-eqb, ne_eqb}
+use borrow.Author.Tests.{ltb-true, ltb-false, lt-ltb, le-ltb, le-leb, lt-leb, eq-eqb, ne_eqb}
+use Rattle.model.specs.Map.{pick}
 use Rattle.line.specs.Text.{digit, prepend, pairs, key_of, decimals, at_most, number_of}
 use Rattle.line.specs.Line.{first_space}
+use Rattle.line.specs.Code.{number_in}
 
 -- A DIGIT
 
 module _ (c : ℕ) where
-  pub digit_below : c < 48 → 16 ≡ digit c
+  pub digit_below : c < 48 → digit c ≡ 16
   unfolding digit
   digit_below h = simp (lt-ltb c 48 h)
 
@@ -26,7 +37,7 @@ module _ (c : ℕ) where
   unfolding digit
   digit_decimal l h = simp (le-ltb c 48 l, le-leb c 57 h)
 
-  pub digit_between : 57 < c → c < 97 → 16 ≡ digit c
+  pub digit_between : 57 < c → c < 97 → digit c ≡ 16
   unfolding digit
   digit_between l h = simp (le-ltb c 48 (omega arith), lt-leb c 57 l, lt-ltb c 97 h)
 
@@ -34,32 +45,29 @@ module _ (c : ℕ) where
   unfolding digit
   digit_letter l h = simp (le-ltb c 48 (omega arith), lt-leb c 57 (omega arith), le-ltb c 97 l, le-leb c 102 h)
 
-  pub digit_above : 102 < c → 16 ≡ digit c
+  pub digit_above : 102 < c → digit c ≡ 16
   unfolding digit
   digit_above l = simp (le-ltb c 48 (omega arith), lt-leb c 57 (omega arith), le-ltb c 97 (omega arith), lt-leb c 102 l)
 
 -- THE FIRST SPACE
 
-module _ (s : List ℕ) (i : ℕ) where
-  -- what is left from place i on is the whole from the start
-  abbrev pub SpaceFrom : Type 0
-  SpaceFrom = i + first_space (drop i s) ≡ first_space s
+pick_is : (t : Bool) (m n : ℕ) → pick t m (suc n) ≡ cond t m (1 + n)
+pick_is true m n = refl
+pick_is false m n = omega arith
 
-  pub space_here : i < length s → get_or s i 0 ≡ 32 → SpaceFrom → i ≡ first_space s
-  unfolding first_space
-  space_here h e inv =
-      let f : first_space (drop i s) ≡ 0 = rw (drop-cons s i 0 h, eq-eqb (get_or s i 0) 32 e) in
-      omega arith
-
-  pub space_end : length s ≤ i → SpaceFrom → i ≡ first_space s
-  unfolding first_space
-  space_end h inv = omega (arith, rw (drop_of_length-le s h) at inv)
-
-pub space_on : (s : List ℕ) (i : ℕ) → i < length s → (get_or s i 0 ≡ 32 → ⊥) → SpaceFrom s i → SpaceFrom s (i + 1)
+pub first_position : (s : List ℕ) → first_space s ≡ position_or_len (λ c. eqb c 32) s
 unfolding first_space
-space_on s i h ne inv =
-    let e : first_space (drop i s) ≡ suc (first_space (drop (suc i) s)) = rw (drop-cons s i 0 h, ne_eqb (get_or s i 0) 32 ne) in
-    rw add-one (omega arith)
+first_position = is_position_or_len first_space (λ c. eqb c 32) refl (λ c s. pick_is (eqb c 32) 0 (first_space s))
+
+known : (t : Bool) → (t ≡ true) ⊎ (t ≡ false)
+known true = inl refl
+known false = inr refl
+
+found_within : (p n : ℕ) → p ≤ n → MatchOption (cond (ltb p n) (Some p) None) (p ≡ n) (λ i. (i ≡ p) × (i < n))
+found_within p n h = ⊎_elim (λ t. rw t (refl, ltb-true p n t)) (λ f. rw f (omega (arith, ltb-false p n f))) (known (ltb p n))
+
+pub first_found : (s : List ℕ) {r : Prelude.Option ℕ} → r ≡ position (λ c. eqb c 32) s → MatchOption r (first_space s ≡ length s) (λ i. (i ≡ first_space s) × (i < length s))
+first_found s e = rw (e, first_position s) (found_within (position_or_len (λ c. eqb c 32) s) (length s) (prefix_len-le-length (λ c. not (eqb c 32)) s))
 
 -- PAIRS OF DIGITS
 
@@ -72,39 +80,48 @@ prepend_one : (k : List ℕ) (b : ℕ) (o : Option (List ℕ)) → prepend_all (
 prepend_one k b none = refl
 prepend_one k b (some l) = ap some (append_assoc k (b ∷ []) l)
 
-pub prepend_none : (o : Option (List ℕ)) → prepend_all [] o ≡ o
-prepend_none none = refl
-prepend_none (some l) = refl
-
-two_cons : (w : List ℕ) (i : ℕ) → 1 < length w - i → drop i w ≡ get_or w i 0 ∷ get_or w (i + 1) 0 ∷ drop (i + 2) w
+two_cons : (w : List ℕ) (i : ℕ) → i + 1 < length w → drop i w ≡ get_or w i 0 ∷ get_or w (i + 1) 0 ∷ drop (i + 2) w
 two_cons w i h = rw (add-one, add-two, drop-cons w i 0 (omega arith), drop-cons w (suc i) 0 (omega arith))
 
-module _ (w k : List ℕ) (i n : ℕ) where
+-- A digit was read, or none.
+abbrev pub DigitIs : ℕ → ℕ → Type 0
+DigitIs c d = (d ≡ digit c) × (d < 16)
+
+module _ (w k : List ℕ) (n : ℕ) where
   abbrev pub PairsFrom : Type 0
-  PairsFrom = prepend_all (take n k) (pairs (drop i w)) ≡ pairs w
+  PairsFrom = prepend_all (take n k) (pairs (drop (2 * n) w)) ≡ pairs w
 
-  pub pairs_first : {a : ℕ} → 1 < length w - i → a ≡ digit (get_or w i 0) → 15 < a → PairsFrom → none ≡ pairs w
+  pub pairs_first : 2 * n + 1 < length w → digit (get_or w (2 * n) 0) ≡ 16 → PairsFrom → none ≡ pairs w
   unfolding pairs
-  pairs_first h e l inv = rw (two_cons w i h, ← e, le-ltb _ 16 l) at inv
+  pairs_first h e inv = rw (two_cons w (2 * n) h, e) at inv
 
-  pub pairs_second : {a b : ℕ} → 1 < length w - i → a ≡ digit (get_or w i 0) → a ≤ 15 → b ≡ digit (get_or w (i + 1) 0) → 15 < b → PairsFrom → none ≡ pairs w
+  pub pairs_second : {a : ℕ} → 2 * n + 1 < length w → DigitIs (get_or w (2 * n) 0) a → digit (get_or w (2 * n + 1) 0) ≡ 16 → PairsFrom → none ≡ pairs w
   unfolding pairs
-  pairs_second {a} h e la f l inv = rw (two_cons w i h, ← e, ← f, lt-ltb a 16 (omega arith), le-ltb _ 16 l) at inv
+  pairs_second {a} h d e inv = rw (two_cons w (2 * n) h, ← d.0, e, lt-ltb a 16 d.1) at inv
 
-  pub pairs_odd : length w - i ≤ 1 → i < length w → PairsFrom → none ≡ pairs w
-  unfolding pairs
-  pairs_odd h l inv = rw (drop-cons w i 0 l, drop_of_length-le w {i = suc i} (omega arith)) at inv
-
-  pub pairs_end : length w ≤ i → PairsFrom → some (take n k) ≡ pairs w
+  pub pairs_end : length w ≤ 2 * n → PairsFrom → some (take n k) ≡ pairs w
   unfolding pairs
   pairs_end h inv = rw (drop_of_length-le w h, append-nil) at inv
 
-pub pairs_step : (w k : List ℕ) (i n : ℕ) {a b m : ℕ} → 1 < length w - i → a ≡ digit (get_or w i 0) → a ≤ 15 → b ≡ digit (get_or w (i + 1) 0) → b ≤ 15 → i ≡ n * 2 → length k ≡ m → length w ≤ 2 * m → PairsFrom w k i n
-    → PairsFrom w (set k n (a * 16 + b)) (i + 2) (n + 1)
+pub pairs_step : (w k : List ℕ) (n : ℕ) {a b : ℕ} → 2 * n + 1 < length w → DigitIs (get_or w (2 * n) 0) a → DigitIs (get_or w (2 * n + 1) 0) b → n < length k → PairsFrom w k n
+    → PairsFrom w (set k n (a * 16 + b)) (n + 1)
 unfolding pairs
-pairs_step w k i n {a} {b} h e la f lb twice kept fits inv =
-    rw (add-one n, take-suc-set k n (a * 16 + b) (omega arith), prepend_one)
-    (rw (two_cons w i h, ← e, ← f, lt-ltb a 16 (omega arith), lt-ltb b 16 (omega arith)) at inv)
+pairs_step w k n {a} {b} h d e room inv =
+    let q : 2 * (n + 1) ≡ 2 * n + 2 = omega arith in
+    rw (q, add-one n, take-suc-set k n (a * 16 + b) room, prepend_one)
+    (rw (two_cons w (2 * n) h, ← d.0, ← e.0, lt-ltb a 16 d.1, lt-ltb b 16 e.1) at inv)
+
+-- An odd count of bytes.
+pub pairs_odd : (w : List ℕ) → length w % 2 ≢ 0 → none ≡ pairs w
+unfolding pairs
+pairs_odd [] h = absurd (omega arith)
+pairs_odd (a ∷ []) h = refl
+pairs_odd (a ∷ b ∷ w) h = both (ltb (digit a) 16) (ltb (digit b) 16) (digit a * 16 + digit b) (pairs_odd w (omega arith))
+  where
+    both : (s t : Bool) (d : ℕ) {o : Option (List ℕ)} → none ≡ o → none ≡ pick s (pick t (prepend d o) none) none
+    both true true d e = rw (← e)
+    both true false d e = refl
+    both false t d e = refl
 
 -- DECIMAL DIGITS
 
@@ -112,17 +129,17 @@ module _ (w : List ℕ) (n i : ℕ) where
   abbrev pub NumberFrom : Type 0
   NumberFrom = decimals n (drop i w) ≡ decimals 0 w
 
-  pub number_bad : {d : ℕ} → i < length w → d ≡ digit (get_or w i 0) → 9 < d → NumberFrom → none ≡ decimals 0 w
+  pub number_bad : i < length w → 10 ≤ digit (get_or w i 0) → NumberFrom → none ≡ decimals 0 w
   unfolding decimals
-  number_bad h e l inv = rw (drop-cons w i 0 h, ← e, le-ltb _ 10 l) at inv
+  number_bad h l inv = rw (drop-cons w i 0 h, le-ltb (digit (get_or w i 0)) 10 l) at inv
 
   pub number_end : length w ≤ i → NumberFrom → some n ≡ decimals 0 w
   unfolding decimals
   number_end h inv = rw (drop_of_length-le w h) at inv
 
-pub number_step : (w : List ℕ) (n i : ℕ) {d x : ℕ} → i < length w → d ≡ digit (get_or w i 0) → d ≤ 9 → x ≡ d → NumberFrom w n i → NumberFrom w (n * 10 + x) (i + 1)
+pub number_step : (w : List ℕ) (n i : ℕ) {d x : ℕ} → i < length w → DigitIs (get_or w i 0) d → d ≤ 9 → x ≡ d → NumberFrom w n i → NumberFrom w (n * 10 + x) (i + 1)
 unfolding decimals
-number_step w n i {d} h e l f inv = rw (add-one, f) (rw (drop-cons w i 0 h, ← e, lt-ltb d 10 (omega arith)) at inv)
+number_step w n i {d} h e l f inv = rw (add-one, f) (rw (drop-cons w i 0 h, ← e.0, lt-ltb d 10 (omega arith)) at inv)
 
 -- The bound that keeps the sum from wrapping: n is below ten to the number of digits read.
 pub number_grows : (n i : ℕ) {d x : ℕ} → d ≤ 9 → x ≡ d → n < 10 ^ i → n * 10 + x < 10 ^ (i + 1)
@@ -134,7 +151,7 @@ number_small w n i a b h = omega (arith, pow-le-pow_right {n = 10} (zero-lt-suc 
 pub number_mul : (w : List ℕ) (n i : ℕ) → i < length w → length w ≤ 10 → n < 10 ^ i → Fits w64 (n * 10)
 number_mul w n i a b h = record { fits = omega (arith, number_small w n i a b h) }
 
-pub number_add : (w : List ℕ) (n i : ℕ) {x : ℕ} → i < length w → length w ≤ 10 → n < 10 ^ i → x < 256 → Fits w64 (n * 10 + x)
+pub number_add : (w : List ℕ) (n i : ℕ) {x : ℕ} → i < length w → length w ≤ 10 → n < 10 ^ i → x ≤ 9 → Fits w64 (n * 10 + x)
 number_add w n i a b h l = record { fits = omega (arith, number_small w n i a b h) }
 
 -- THE NUMBER OF A WORD
@@ -161,6 +178,11 @@ module _ (w : List ℕ) where
 
     pub number_over : (n : ℕ) → 4294967295 < n → some n ≡ decimals 0 w → none ≡ number_of w
     number_over n h e = rw (is_number, ← e, lt-leb n 4294967295 h)
+
+    -- as a number of 32 bits, if it is one
+    pub number_made : {E : Type 0} (n : ℕ) (r : Result ℕ E) {o : Prelude.Option ℕ} → OkIff r (n < 4294967296) n → o ≡ result_ok r → some n ≡ decimals 0 w → number_in o ≡ number_of w
+    number_made n (Ok v) h e d = rw (e, h.1) (number_value n (omega (arith, h.0)) d)
+    number_made n (Err x) h e d = rw e (number_over n (omega (arith, h)) d)
 
 -- THE KEY OF A WORD
 

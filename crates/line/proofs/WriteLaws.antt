@@ -11,8 +11,6 @@ use lib.Dec.{ltb}
 use Rattle.model.specs.Map.{pick}
 use lib.Seq.{drop-cons, set_at, append_snoc, take-suc, take_all, take_at, drop_at, drop-drop}
 use borrow.Rule.Slice.PartMut.{put_mid, post_of, same_len_mid}
-use mir.Syntax.{w64}
-use mir.Val.{Fits}
 use borrow.Author.Tests.{lt-ltb, le-ltb}
 use Rattle.line.specs.Text.{digit_text, pairs_text, key_text, digits_text, number_text}
 use Rattle.line.specs.Answer.{word_of, answer_text, entry_text}
@@ -49,15 +47,6 @@ wrote_one {x} {o} {p} {n} a w h =
 pub wrote_as : {x y o p : List ℕ} {n : ℕ} → Wrote x o p n → x ≡ y → Wrote y o p n
 wrote_as {o = o} {p = p} {n = n} w e = subst (λ (z : List ℕ). Wrote z o p n) e w
 
--- WORDS
-
-module _ (w : List ℕ) {o p : List ℕ} {i : ℕ} (k : Wrote (take i w) o p i) where
-  pub word_step : i < length w → length w ≤ length o → Wrote (take (i + 1) w) o (set p i (get_or w i 0)) (i + 1)
-  word_step h room = wrote_as (wrote_one (get_or w i 0) k (omega arith)) (sym (rw (add-one i) (take-suc w i 0 h)))
-
-  pub word_end : length w ≤ i → Wrote w o p i
-  word_end h = wrote_as k (take_all i w h)
-
 -- KEYS
 
 pairs_append : (k l : List ℕ) → pairs_text (k ++ l) ≡ pairs_text k ++ pairs_text l
@@ -70,19 +59,19 @@ unfolding key_text
 key_dashed [] {o} h room = wrote_one 45 (wrote_none o) (omega arith)
 key_dashed (b ∷ k) h room = absurd (omega arith)
 
-module _ (k : List ℕ) {o p : List ℕ} {i n : ℕ} where
-  pub key_step : {a b : ℕ} → i < length k → 2 * length k < length o → n ≡ i * 2 → a ≡ digit_text (get_or k i 0 / 16) → b ≡ digit_text (get_or k i 0 % 16) → Wrote (pairs_text (take i k)) o p n
-      → Wrote (pairs_text (take (i + 1) k)) o (set (set p n a) (n + 1) b) (n + 2)
+module _ (k : List ℕ) {o p : List ℕ} {i : ℕ} where
+  pub key_step : {a b : ℕ} → i < length k → 2 * length k < length o → a ≡ digit_text (get_or k i 0 / 16) → b ≡ digit_text (get_or k i 0 % 16) → Wrote (pairs_text (take i k)) o p (2 * i)
+      → Wrote (pairs_text (take (i + 1) k)) o (set (set p (2 * i) a) (2 * i + 1) b) (2 * (i + 1))
   unfolding pairs_text
-  key_step {a} {b} h room twice f g w =
-      let both : Wrote ((pairs_text (take i k) ++ (a ∷ [])) ++ (b ∷ [])) o (set (set p n a) (n + 1) b) (n + 1 + 1) = wrote_one b (wrote_one a w (omega arith)) (omega arith) in
-      let q : n + 2 ≡ n + 1 + 1 = omega arith in
+  key_step {a} {b} h room f g w =
+      let both : Wrote ((pairs_text (take i k) ++ (a ∷ [])) ++ (b ∷ [])) o (set (set p (2 * i) a) (2 * i + 1) b) (2 * i + 1 + 1) = wrote_one b (wrote_one a w (omega arith)) (omega arith) in
+      let q : 2 * (i + 1) ≡ 2 * i + 1 + 1 = omega arith in
       rw q (wrote_as both (append_assoc (pairs_text (take i k)) (a ∷ []) (b ∷ []) ∙ rw (f, g) (sym (rw (add-one i, take-suc k i 0 h) (pairs_append (take i k) (get_or k i 0 ∷ []))))))
 
-pub key_whole : (k : List ℕ) {o p : List ℕ} {i n : ℕ} → (length k ≡ 0 → ⊥) → length k ≤ i → Wrote (pairs_text (take i k)) o p n → Wrote (key_text k) o p n
+pub key_whole : (k : List ℕ) {o p : List ℕ} {i : ℕ} → (length k ≡ 0 → ⊥) → i ≡ length k → Wrote (pairs_text (take i k)) o p (2 * i) → Wrote (key_text k) o p (2 * length k)
 unfolding key_text
-key_whole [] h l w = absurd (h refl)
-key_whole (b ∷ k) {i = i} h l w = wrote_as w (ap pairs_text (take_all i (b ∷ k) l))
+key_whole [] h e w = absurd (h refl)
+key_whole (b ∷ k) {i = i} h e w = rw (← e) (wrote_as w (ap pairs_text (take_all i (b ∷ k) (omega arith))))
 
 pub key_start : (k o : List ℕ) → Wrote (pairs_text (take 0 k)) o o 0
 unfolding pairs_text
@@ -197,16 +186,6 @@ module _ (k : List ℕ) {o p : List ℕ} {n : ℕ} (room : 2 * length k + 13 ≤
 
     pub entry_whole : Wrote (entry_text (k, v)) o (set (put_mid (n + 1) (length (set p n 32) - (n + 1)) (set p n 32) q) (n + 1 + d) 10) (n + 1 + d + 1)
     entry_whole = wrote_as (wrote_one 10 numbered entry_fits) (append_assoc (key_text k ++ (32 ∷ [])) (number_text v) (10 ∷ []) ∙ append_assoc (key_text k) (32 ∷ []) (number_text v ++ (10 ∷ [])))
-
-    pub entry_kept : length (set (put_mid (n + 1) (length (set p n 32) - (n + 1)) (set p n 32) q) (n + 1 + d) 10) ≡ length o
-    entry_kept = entry_whole.size
-
-    -- both sums of places fit a usize, as the output's length does
-    pub entry_place : length o < 18446744073709551616 → Fits w64 (n + 1 + d)
-    entry_place h = record { fits = omega (arith, entry_fits) }
-
-    pub entry_next : length o < 18446744073709551616 → Fits w64 (n + 1 + d + 1)
-    entry_next h = record { fits = omega (arith, entry_fits) }
 
 -- A listing's line is at most this long.
 pub entry_few : (k : List ℕ) (v : ℕ) → length (entry_text (k, v)) ≤ 2 * length k + 13

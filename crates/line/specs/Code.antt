@@ -1,59 +1,56 @@
 -- What the code's own types stand for.
 -- Assumes nothing.
-use Rattle.std.specs.Prelude.{ℕ, ◌≤◌, ◌≡◌, List, ◌++◌, length, take, drop}
+use Rattle.std.specs.Prelude
+use Rattle.std.specs.Prelude.{ℕ, ◌≤◌, ◌≡◌, List, ◌++◌, length, take, drop, Result, Some, None, Ok, Err}
 use Rattle.std.proofs.Math.Option.{Option, none, some}
 use Rattle.model.specs.Key.{key_limit}
-use Rattle.model.specs.Map.{pick}
 use Rattle.model.specs.Page.{plain, inclusive}
 use Rattle.line.specs.Line
 use Rattle.line.specs.Run
-use Rattle.line.specs.declared.reading.Decoded.{Decoded}
-use Rattle.line.specs.declared.reading.Number.{Number}
 use Rattle.line.specs.declared.reading.Parsed.{Parsed}
+use Rattle.line.specs.declared.reading.LineError.{LineError}
 use Rattle.line.specs.declared.reading.Verb.{Verb}
-use Rattle.line.specs.declared.pieces.Held.{Held}
 use Rattle.line.specs.declared.pieces.Taken.{Taken}
 
 -- A decoded key stands at the start of the buffer.
-abbrev pub key_in : Decoded → List ℕ → Option (List ℕ)
-key_in (Decoded.Bytes n) buffer = some (take n buffer)
-key_in Decoded.Not buffer = none
+abbrev pub key_in : Prelude.Option ℕ → List ℕ → Option (List ℕ)
+key_in (Some n) buffer = some (take n buffer)
+key_in None buffer = none
 
-abbrev pub key_size : Decoded → ℕ
-key_size (Decoded.Bytes n) = n
-key_size Decoded.Not = 0
+abbrev pub key_size : Prelude.Option ℕ → ℕ
+key_size (Some n) = n
+key_size None = 0
 
 -- Decoding gave this key, in the buffer as it is now.
-pub record KeyIs (key : Option (List ℕ)) (before buffer : List ℕ) (r : Decoded) : Type 0 where
+pub record KeyIs (key : Option (List ℕ)) (before buffer : List ℕ) (r : Prelude.Option ℕ) : Type 0 where
   pub is : key_in r buffer ≡ key
   pub size : length buffer ≡ length before
   pub within : key_size r ≤ length before
 
-abbrev pub number_in : Number → Option ℕ
-number_in (Number.Value v) = some v
-number_in Number.Not = none
+abbrev pub number_in : Prelude.Option ℕ → Option ℕ
+number_in (Some v) = some v
+number_in None = none
 
 -- A line that was read, with its key in the buffer.
-abbrev pub line_in : Parsed → List ℕ → Line.Line
-line_in (Parsed.Insert n v) buffer = Line.command (Line.insert (take n buffer) v)
-line_in (Parsed.Get n) buffer = Line.command (Line.get (take n buffer))
-line_in (Parsed.Delete n) buffer = Line.command (Line.delete (take n buffer))
-line_in (Parsed.Plain n) buffer = Line.command (Line.list plain (take n buffer))
-line_in (Parsed.Inclusive n) buffer = Line.command (Line.list inclusive (take n buffer))
-line_in Parsed.Bad buffer = Line.bad
-line_in Parsed.Key buffer = Line.key
+abbrev pub line_in : Result Parsed LineError → List ℕ → Line.Line
+line_in (Ok (Parsed.Insert n v)) buffer = Line.command (Line.insert (take n buffer) v)
+line_in (Ok (Parsed.Get n)) buffer = Line.command (Line.get (take n buffer))
+line_in (Ok (Parsed.Delete n)) buffer = Line.command (Line.delete (take n buffer))
+line_in (Ok (Parsed.Plain n)) buffer = Line.command (Line.list plain (take n buffer))
+line_in (Ok (Parsed.Inclusive n)) buffer = Line.command (Line.list inclusive (take n buffer))
+line_in (Err LineError.Bad) buffer = Line.bad
+line_in (Err LineError.Key) buffer = Line.key
 
-abbrev pub parsed_size : Parsed → ℕ
-parsed_size (Parsed.Insert n v) = n
-parsed_size (Parsed.Get n) = n
-parsed_size (Parsed.Delete n) = n
-parsed_size (Parsed.Plain n) = n
-parsed_size (Parsed.Inclusive n) = n
-parsed_size Parsed.Bad = 0
-parsed_size Parsed.Key = 0
+abbrev pub parsed_size : Result Parsed LineError → ℕ
+parsed_size (Ok (Parsed.Insert n v)) = n
+parsed_size (Ok (Parsed.Get n)) = n
+parsed_size (Ok (Parsed.Delete n)) = n
+parsed_size (Ok (Parsed.Plain n)) = n
+parsed_size (Ok (Parsed.Inclusive n)) = n
+parsed_size (Err e) = 0
 
 -- Reading gave this line, with the key in the buffer as it is now.
-pub record LineIs (line : Line.Line) (before buffer : List ℕ) (r : Parsed) : Type 0 where
+pub record LineIs (line : Line.Line) (before buffer : List ℕ) (r : Result Parsed LineError) : Type 0 where
   pub is : line_in r buffer ≡ line
   pub size : length buffer ≡ length before
   pub within : parsed_size r ≤ length before
@@ -79,13 +76,18 @@ pub record Wrote (bytes before out : List ℕ) (n : ℕ) : Type 0 where
   pub size : length out ≡ length before
 
 -- What is held of the present line; none if it is too long.
-abbrev pub held_in : Held → List ℕ → Option (List ℕ)
-held_in h line = pick h.over none (some (take h.count line))
+abbrev pub held_in : Prelude.Option ℕ → List ℕ → Option (List ℕ)
+held_in (Some n) line = some (take n line)
+held_in None line = none
 
-pub record HeldIs (held : Option (List ℕ)) (before line : List ℕ) (h : Held) : Type 0 where
+abbrev pub held_size : Prelude.Option ℕ → ℕ
+held_size (Some n) = n
+held_size None = 0
+
+pub record HeldIs (held : Option (List ℕ)) (before line : List ℕ) (h : Prelude.Option ℕ) : Type 0 where
   pub is : held_in h line ≡ held
   pub size : length line ≡ length before
-  pub fits : h.count ≤ Line.line_limit
+  pub fits : held_size h ≤ Line.line_limit
 
 -- What was taken of a piece of input.
 abbrev pub taken_in : Taken → List ℕ → List ℕ → Run.Taken
@@ -101,13 +103,13 @@ abbrev pub taken_moves : Taken → ℕ
 taken_moves (Taken.More h) = 1
 taken_moves (Taken.Ended h n) = n
 
-abbrev pub taken_held : Taken → Held
+abbrev pub taken_held : Taken → Prelude.Option ℕ
 taken_held (Taken.More h) = h
 taken_held (Taken.Ended h n) = h
 
 pub record TakenIs (taken : Run.Taken) (piece before line : List ℕ) (r : Taken) : Type 0 where
   pub is : taken_in r piece line ≡ taken
   pub size : length line ≡ length before
-  pub fits : (taken_held r).count ≤ Line.line_limit
+  pub fits : held_size (taken_held r) ≤ Line.line_limit
   pub within : taken_size r ≤ length piece
   pub moves : 1 ≤ taken_moves r

@@ -1,5 +1,5 @@
 // A line read: keys in hex, numbers in decimal, a letter for each command.
-ghost use Rattle.std.specs.Prelude.{◌≡◌, ◌*◌, ◌≤◌, ◌<◌, length};
+ghost use Rattle.std.specs.Prelude.{◌≡◌, ◌*◌, ◌≤◌, ◌<◌, length, MatchOption};
 ghost use Rattle.line.specs.Text.{digit, pairs, key_of, number_of};
 ghost use Rattle.line.specs.Line.{first_space, with_key, insert_line, short_line, line_of};
 ghost use Rattle.line.specs.Code.{KeyIs, number_in, LineIs, parsed_as, command_for};
@@ -11,139 +11,90 @@ pub const LINE_LIMIT: usize = 200;
 
 pub const KEY_LIMIT: usize = 64;
 
-// The value of a hex digit; 16 for any other byte.
-pub fn digit_of(c: u8) -> u8
-    ensures { (result ≡ digit c) × (result < 17) }
+// The value of a hex digit; none for any other byte.
+pub fn digit_of(c: u8) -> Option<u8>
+    ensures { MatchOption result (digit c ≡ 16) (λ d. (d ≡ digit c) × (d < 16)) }
 {
-    if c < 48 {
-        return 16;
+    match c {
+        b'0'..=b'9' => Some(c - b'0'),
+        b'a'..=b'f' => Some(c - b'a' + 10),
+        _ => None,
     }
-    if c <= 57 {
-        return c - 48;
-    }
-    if c < 97 {
-        return 16;
-    }
-    if c <= 102 {
-        return c - 87;
-    }
-    16
 }
 
-fn wide(x: u8) -> u64
-    ensures { (result ≡ x) × (result < 256) }
-{
-    x as u64
-}
-
-// A decoded key is so many bytes at the start of a lent buffer.
-#[derive(Clone, Copy)]
-pub enum Decoded {
-    Bytes(usize),
-    Not,
-}
-
-// Pairs of hex digits, as bytes.
-fn decode_pairs(word: &[u8], key: &mut [u8]) -> Decoded
+// Pairs of hex digits, as bytes at the start of a lent buffer. The answer is how many these are.
+fn decode_pairs(word: &[u8], key: &mut [u8]) -> Option<usize>
     requires { length word.now ≤ 2 * length key.old }
     ensures { KeyIs (pairs word.now) key.old key.new result }
 {
-    let mut i: usize = 0;
-    let mut n: usize = 0;
-    while 1 < word.len() - i {
-        let a = digit_of(word[i]);
-        if 15 < a {
-            return Decoded::Not;
-        }
-        let b = digit_of(word[i + 1]);
-        if 15 < b {
-            return Decoded::Not;
-        }
-        key[n] = a * 16 + b;
-        i += 2;
-        n += 1;
+    if word.len() % 2 != 0 {
+        return None;
     }
-    if i < word.len() {
-        return Decoded::Not;
+    let count = word.len() / 2;
+    for n in 0..count {
+        key[n] = digit_of(word[2 * n])? * 16 + digit_of(word[2 * n + 1])?;
     }
-    Decoded::Bytes(n)
+    Some(count)
 }
 
-pub fn decode_key(word: &[u8], key: &mut [u8]) -> Decoded
+// A decoded key is so many bytes at the start of a lent buffer.
+pub fn decode_key(word: &[u8], key: &mut [u8]) -> Option<usize>
     requires { length word.now ≤ 2 * length key.old }
     ensures { KeyIs (key_of word.now) key.old key.new result }
 {
-    if word.len() == 0 {
-        return Decoded::Not;
+    match word {
+        [] => None,
+        [b'-'] => Some(0),
+        [_] => None,
+        _ => decode_pairs(word, key),
     }
-    if word.len() == 1 {
-        if word[0] == b'-' {
-            return Decoded::Bytes(0);
-        }
-        return Decoded::Not;
-    }
-    decode_pairs(word, key)
-}
-
-#[derive(Clone, Copy)]
-pub enum Number {
-    Value(u32),
-    Not,
 }
 
 // 1 to 10 decimal digits, up to the largest number of 32 bits.
-pub fn number_of(word: &[u8]) -> Number
+pub fn number_of(word: &[u8]) -> Option<u32>
     ensures { number_in result ≡ number_of word.now }
 {
-    if word.len() == 0 {
-        return Number::Not;
-    }
-    if 10 < word.len() {
-        return Number::Not;
+    if word.is_empty() || 10 < word.len() {
+        return None;
     }
     let mut n: u64 = 0;
-    let mut i: usize = 0;
-    while i < word.len() {
-        let d = digit_of(word[i]);
+    for c in word {
+        let d = digit_of(*c)?;
         if 9 < d {
-            return Number::Not;
+            return None;
         }
-        n = n * 10 + wide(d);
-        i += 1;
+        n = n * 10 + u64::from(d);
     }
-    if n <= 4294967295 {
-        return Number::Value(n as u32);
-    }
-    Number::Not
+    u32::try_from(n).ok()
 }
 
-pub fn first_space(s: &[u8]) -> usize
-    ensures { (result ≡ first_space s.now) × (result ≤ length s.now) }
+// The place of the first space.
+pub fn first_space(s: &[u8]) -> Option<usize>
+    ensures { MatchOption result (first_space s.now ≡ length s.now) (λ i. (i ≡ first_space s.now) × (i < length s.now)) }
 {
-    let mut i: usize = 0;
-    while i < s.len() {
-        if s[i] == b' ' {
-            return i;
-        }
-        i += 1;
-    }
-    i
+    s.iter().position(|c| *c == b' ')
 }
 
-// A line as it was read: a key is so many bytes at the start of the lent buffer.
-#[derive(Clone, Copy)]
+// A command that was read: a key is so many bytes at the start of the lent buffer. It is no part of the buffer, since LineIs speaks of the whole buffer after
+// the call, which a part that is lent on would hide.
+#[derive(Clone, Copy, Debug, PartialEq, Eq)]
 pub enum Parsed {
     Insert(usize, u32),
     Get(usize),
     Delete(usize),
     Plain(usize),
     Inclusive(usize),
+}
+
+// A line that is no command is malformed, or well formed with a key that is too long.
+#[derive(Clone, Copy, Debug, PartialEq, Eq)]
+pub enum LineError {
     Bad,
     Key,
 }
 
-// The commands that have a key and nothing more.
-#[derive(Clone, Copy)]
+// The commands that have a key and nothing more: `parse_key`'s contract names the command of each, which it could not of a closure that is handed in.
+#[derive(Clone, Copy, Debug, PartialEq, Eq)]
 pub enum Verb {
     Get,
     Delete,
@@ -162,78 +113,56 @@ fn parsed_as(verb: Verb, n: usize) -> Parsed
     }
 }
 
-fn parse_key(verb: Verb, word: &[u8], key: &mut [u8]) -> Parsed
+fn parse_key(verb: Verb, word: &[u8], key: &mut [u8]) -> Result<Parsed, LineError>
     requires { length word.now ≤ 2 * length key.old }
     ensures { LineIs (with_key (command_for verb) (key_of word.now)) key.old key.new result }
 {
-    let Decoded::Bytes(n) = decode_key(word, key) else {
-        return Parsed::Bad;
-    };
+    let n = decode_key(word, key).ok_or(LineError::Bad)?;
     if KEY_LIMIT < n {
-        return Parsed::Key;
+        return Err(LineError::Key);
     }
-    parsed_as(verb, n)
+    Ok(parsed_as(verb, n))
 }
 
 // A key, a space, a number.
-fn parse_insert(word: &[u8], key: &mut [u8]) -> Parsed
+fn parse_insert(word: &[u8], key: &mut [u8]) -> Result<Parsed, LineError>
     requires { length word.now ≤ 2 * length key.old }
     ensures { LineIs (insert_line word.now) key.old key.new result }
 {
-    let space = first_space(word);
-    if space == word.len() {
-        return Parsed::Bad;
-    }
-    let Decoded::Bytes(n) = decode_key(&word[..space], key) else {
-        return Parsed::Bad;
-    };
-    let Number::Value(v) = number_of(&word[space + 1..]) else {
-        return Parsed::Bad;
-    };
+    let space = first_space(word).ok_or(LineError::Bad)?;
+    let n = decode_key(&word[..space], key).ok_or(LineError::Bad)?;
+    let v = number_of(&word[space + 1..]).ok_or(LineError::Bad)?;
     if KEY_LIMIT < n {
-        return Parsed::Key;
+        return Err(LineError::Key);
     }
-    Parsed::Insert(n, v)
+    Ok(Parsed::Insert(n, v))
 }
 
 // A line of at most 200 bytes.
-pub fn parse_short(line: &[u8], key: &mut [u8]) -> Parsed
+pub fn parse_short(line: &[u8], key: &mut [u8]) -> Result<Parsed, LineError>
     requires { length line.now ≤ 2 * length key.old }
     ensures { LineIs (short_line line.now) key.old key.new result }
 {
-    if line.len() < 2 {
-        return Parsed::Bad;
+    let [letter, b' ', word @ ..] = line else {
+        return Err(LineError::Bad);
+    };
+    match letter {
+        b'i' => parse_insert(word, key),
+        b'g' => parse_key(Verb::Get, word, key),
+        b'd' => parse_key(Verb::Delete, word, key),
+        b'p' => parse_key(Verb::Plain, word, key),
+        b'q' => parse_key(Verb::Inclusive, word, key),
+        _ => Err(LineError::Bad),
     }
-    if line[1] != b' ' {
-        return Parsed::Bad;
-    }
-    let letter = line[0];
-    let word = &line[2..];
-    if letter == b'i' {
-        return parse_insert(word, key);
-    }
-    if letter == b'g' {
-        return parse_key(Verb::Get, word, key);
-    }
-    if letter == b'd' {
-        return parse_key(Verb::Delete, word, key);
-    }
-    if letter == b'p' {
-        return parse_key(Verb::Plain, word, key);
-    }
-    if letter == b'q' {
-        return parse_key(Verb::Inclusive, word, key);
-    }
-    Parsed::Bad
 }
 
 // A line without its newline, as document 01 reads it; the key goes into the buffer, of at least KEY_ROOM bytes.
-pub fn parse(line: &[u8], key: &mut [u8]) -> Parsed
+pub fn parse(line: &[u8], key: &mut [u8]) -> Result<Parsed, LineError>
     requires { 100 ≤ length key.old }
     ensures { LineIs (line_of line.now) key.old key.new result }
 {
     if LINE_LIMIT < line.len() {
-        return Parsed::Bad;
+        return Err(LineError::Bad);
     }
     parse_short(line, key)
 }

@@ -1,5 +1,5 @@
 // Keys in hex, numbers in decimal and answers written. Each function writes at the start of a lent output and returns how many bytes it wrote; the caller
-// lends the rest on.
+// lends the rest on: there is no heap for a String, and `Wrote`, by which the program's promises are stated, names the output and the count.
 ghost use Rattle.std.specs.Prelude.{◌≡◌, ◌+◌, ◌*◌, ◌/◌, ◌%◌, ◌≤◌, ◌<◌, length};
 ghost use Rattle.line.specs.Text.{digit_text, key_text, digits_text, number_text};
 ghost use Rattle.line.specs.Answer.{answer_text, entry_text};
@@ -9,34 +9,15 @@ fn digit_text(d: u8) -> u8
     requires { d < 16 }
     ensures { result ≡ digit_text d }
 {
-    if d < 10 {
-        return d + 48;
-    }
-    d + 87
-}
-
-fn high_text(b: u8) -> u8
-    ensures { result ≡ digit_text (b / 16) }
-{
-    digit_text(b / 16)
-}
-
-fn low_text(b: u8) -> u8
-    ensures { result ≡ digit_text (b % 16) }
-{
-    digit_text(b % 16)
+    if d < 10 { d + b'0' } else { d - 10 + b'a' }
 }
 
 pub fn put_word(word: &[u8], out: &mut [u8]) -> usize
     requires { length word.now ≤ length out.old }
     ensures { Wrote word.now out.old out.new result }
 {
-    let mut i: usize = 0;
-    while i < word.len() {
-        out[i] = word[i];
-        i += 1;
-    }
-    i
+    out[..word.len()].copy_from_slice(word);
+    word.len()
 }
 
 // A key in hex, `-` for the empty one.
@@ -44,19 +25,15 @@ pub fn put_key(key: &[u8], out: &mut [u8]) -> usize
     requires { 2 * length key.now < length out.old }
     ensures { Wrote (key_text key.now) out.old out.new result }
 {
-    let mut n: usize = 0;
-    if key.len() == 0 {
-        out[n] = b'-';
-        return n + 1;
+    if key.is_empty() {
+        out[0] = b'-';
+        return 1;
     }
-    let mut i: usize = 0;
-    while i < key.len() {
-        out[n] = high_text(key[i]);
-        out[n + 1] = low_text(key[i]);
-        i += 1;
-        n += 2;
+    for (i, b) in key.iter().enumerate() {
+        out[2 * i] = digit_text(*b / 16);
+        out[2 * i + 1] = digit_text(*b % 16);
     }
-    n
+    2 * key.len()
 }
 
 // A number in at most so many digits.
@@ -68,11 +45,11 @@ fn put_digits(places: usize, value: u32, out: &mut [u8]) -> usize
         return 0;
     }
     if value < 10 {
-        out[0] = (value + 48) as u8;
+        out[0] = value as u8 + b'0';
         return 1;
     }
     let n = put_digits(places - 1, value / 10, out);
-    out[n] = (value % 10 + 48) as u8;
+    out[n] = (value % 10) as u8 + b'0';
     n + 1
 }
 
@@ -85,7 +62,7 @@ pub fn put_number(value: u32, out: &mut [u8]) -> usize
 }
 
 // The answers that are one line.
-#[derive(Clone, Copy)]
+#[derive(Clone, Copy, Debug, PartialEq, Eq)]
 pub enum Answer {
     New,
     Replaced,
@@ -99,7 +76,7 @@ pub enum Answer {
     Key,
 }
 
-// An answer's line, with its newline: at most 11 bytes.
+// An answer's line, with its newline: at most 11 bytes. No Display: Wrote says which bytes stand in the lent output.
 pub fn put_answer(answer: Answer, out: &mut [u8]) -> usize
     requires { 11 ≤ length out.old }
     ensures { Wrote (answer_text answer) out.old out.new result }

@@ -1,19 +1,19 @@
 -- What is shown of a page: a law for each way out. Assumes nothing.
 use Prim.Native.Nat.{ℕ, suc, ◌+◌, ◌*◌, ◌%◌, ◌≤◌, ◌<◌}
 use mathlib.Core.Path.{◌≡◌, refl, sym, ap, ap₂, subst, ◌∙◌}
-use mathlib.Core.Logic.{◌⊎◌, ⊎_elim}
 use mathlib.Core.Bool.{Bool, true, false, true≢false}
 use mathlib.Core.List.{List, [], ◌∷◌, ◌++◌, append_assoc}
 use native.Mathlib.Omega.{arith}
 use lib.ListN.{length, get_or, take, drop, length-append}
 use lib.Seq.{drop-drop, get_or-drop, take_at, drop-append_seam}
-use denote.Enum.Declared.{declared, tag_of}
 use borrow.Author.Tests.{le-ltb}
+use Rattle.std.specs.Prelude.{Option, Some, None}
 use Rattle.model.specs.Key.{IsKey}
 use Rattle.model.specs.Map.{Entry, All}
 use Rattle.model.specs.Entry.{field, four_bytes, entry_bytes, entries_bytes}
-use Rattle.index_spec.specs.declared.pages.Paged.{Paged}
-use Rattle.index_spec.specs.contracts.pages.Paged.{enum}
+use Rattle.index_spec.specs.declared.pages.PageError.{PageError}
+use Rattle.iterator.specs.declared.page.Page.{Page}
+use Rattle.std.specs.Prelude.{Result, Ok, Err}
 use Rattle.line.specs.Answer.{entries_text}
 use Rattle.line.specs.Code.{Wrote}
 use Rattle.listings.specs.PageText.{page_text, last_at, key_at, Kept}
@@ -21,22 +21,18 @@ use Rattle.listings.specs.Listing.{page_size, IsPage, WasShown}
 use Rattle.listings.specs.declared.listing.Shown.{Shown}
 use Rattle.listings.proofs.PageLines.{page_lines}
 
-abbrev shown : ℕ → ℕ → Bool → Shown
-shown bytes size more = record { bytes = bytes; size = size; more = more }
+abbrev shown : ℕ → Option ℕ → Shown
+shown bytes next = record { bytes = bytes; next = next }
 
 -- ---- the number of entries
 
-abbrev done_entries : Paged → ℕ
-done_entries (Paged.Done e b d) = e
-done_entries Paged.Store = 0
-done_entries Paged.Key = 0
-done_entries Paged.Count = 0
+abbrev done_entries : Result Page PageError → ℕ
+done_entries (Ok p) = p.entries
+done_entries (Err e) = 0
 
-abbrev done_end : Paged → Bool
-done_end (Paged.Done e b d) = d
-done_end Paged.Store = false
-done_end Paged.Key = false
-done_end Paged.Count = false
+abbrev done_end : Result Page PageError → Bool
+done_end (Ok p) = p.end
+done_end (Err e) = false
 
 -- ---- the last entry
 
@@ -89,79 +85,73 @@ all_last : (xs : List Entry) (e : Entry) → All IsKey (xs ++ (e ∷ [])) → Is
 all_last [] e k = k.0
 all_last (x ∷ xs) e k = all_last xs e k.1
 
-module _ (paged : Paged) (page key out : List ℕ) where
+module _ (paged : Result Page PageError) (page key out : List ℕ) where
   -- nothing is shown of what is no page of so few entries, or has no room
-  not_shown : ((es : List Entry) (end : Bool) → IsPage paged page es end → 141 * length es ≤ length out → ⊥) → WasShown paged page key out out (shown 0 0 false)
+  not_shown : ((es : List Entry) (end : Bool) → IsPage paged page es end → 141 * length es ≤ length out → ⊥) → WasShown paged page key out out (shown 0 None)
   not_shown never = record {
     within = omega arith;
     size = refl;
-    fits = omega arith;
+    fits = tt;
     lines = λ es end p h. absurd (never es end p h);
     last = λ es p h. refl;
     more = λ es xs e p h q. absurd (never es false p h);
   }
 
-  pub show_refused : (tag_of (declared enum) paged ≡ 1) ⊎ ((tag_of (declared enum) paged ≡ 2) ⊎ (tag_of (declared enum) paged ≡ 3)) → WasShown paged page key out out (shown 0 0 false)
-  show_refused t = not_shown (λ es end p h. go paged p.written p.answer t)
-    where
-      go : (x : Paged) {e : ℕ} {d : Bool} (b : ℕ) → x ≡ Paged.Done e b d → (tag_of (declared enum) x ≡ 1) ⊎ ((tag_of (declared enum) x ≡ 2) ⊎ (tag_of (declared enum) x ≡ 3)) → ⊥
-      go (Paged.Done e b d) c q u = ⊎_elim (λ z. omega arith) (λ y. ⊎_elim (λ z. omega arith) (λ z. omega arith) y) u
-      go Paged.Store c q u = let z : ◌≡◌ {A = ℕ} 0 1 = cc in omega arith
-      go Paged.Key c q u = let z : ◌≡◌ {A = ℕ} 0 1 = cc in omega arith
-      go Paged.Count c q u = let z : ◌≡◌ {A = ℕ} 0 1 = cc in omega arith
+  pub show_refused : (e : PageError) → paged ≡ Err e → WasShown paged page key out out (shown 0 None)
+  show_refused e t = not_shown (λ es end p h. let q = sym t ∙ p.answer in absurd (let z : ◌≡◌ {A = ℕ} 0 1 = cc in omega arith))
 
-  module _ (n b : ℕ) (d : Bool) (is : paged ≡ Paged.Done n b d) where
-    entries_are : (es : List Entry) (end : Bool) → IsPage paged page es end → n ≡ length es
+  module _ (g : Page) (is : paged ≡ Ok g) where
+    entries_are : (es : List Entry) (end : Bool) → IsPage paged page es end → g.entries ≡ length es
     entries_are es end p = ap done_entries (sym is ∙ p.answer)
 
-    end_is : (es : List Entry) (end : Bool) → IsPage paged page es end → d ≡ end
+    end_is : (es : List Entry) (end : Bool) → IsPage paged page es end → g.end ≡ end
     end_is es end p = ap done_end (sym is ∙ p.answer)
 
-    pub show_many : page_size < n → WasShown paged page key out out (shown 0 0 false)
+    pub show_many : page_size < g.entries → WasShown paged page key out out (shown 0 None)
     show_many h = not_shown (λ es end p r. omega (arith, entries_are es end p, p.few))
 
-    pub show_no_room : length out < 141 * n → WasShown paged page key out out (shown 0 0 false)
+    pub show_no_room : length out < 141 * g.entries → WasShown paged page key out out (shown 0 None)
     show_no_room h = not_shown (λ es end p r. omega (arith, entries_are es end p))
 
-    module _ (out' : List ℕ) (m : ℕ) (w : Wrote (page_text n page) out out' m) where
+    module _ (out' : List ℕ) (m : ℕ) (w : Wrote (page_text g.entries page) out out' m) where
       its_lines : (es : List Entry) (end : Bool) → IsPage paged page es end → Wrote (entries_text es) out out' m
       its_lines es end p = subst (λ (z : List ℕ). Wrote z out out' m) (ap₂ page_text (entries_are es end p) p.bytes ∙ page_lines es p.rest p.keys) w
 
-      pub show_last : d ≡ true → WasShown paged page key out out' (shown m 0 false)
+      pub show_last : g.end ≡ true → WasShown paged page key out out' (shown m None)
       show_last e = record {
         within = w.within;
         size = w.size;
-        fits = omega arith;
+        fits = tt;
         lines = λ es end p h. its_lines es end p;
         last = λ es p h. refl;
         more = λ es xs x p h q. absurd (true≢false (sym e ∙ end_is es false p));
       }
 
-      pub show_none : n ≡ 0 → WasShown paged page key out out' (shown m 0 false)
+      pub show_none : g.entries ≡ 0 → WasShown paged page key out out' (shown m None)
       show_none e = record {
         within = w.within;
         size = w.size;
-        fits = omega arith;
+        fits = tt;
         lines = λ es end p h. its_lines es end p;
         last = λ es p h. refl;
         more = λ es xs x p h q. absurd (omega (arith, entries_are es false p, ap length q, length-append xs (x ∷ [])));
       }
 
-      pub show_more : (t : ℕ) (key₀ : List ℕ) (size : ℕ) → d ≡ false → t ≡ last_at n page → Kept (key_at page t) key₀ key size → WasShown paged page key out out' (shown m size true)
+      pub show_more : (t : ℕ) (key₀ : List ℕ) (size : ℕ) → g.end ≡ false → t ≡ last_at g.entries page → Kept (key_at page t) key₀ key size → WasShown paged page key out out' (shown m (Some size))
       show_more t key₀ size e at k = record {
         within = w.within;
         size = w.size;
         fits = k.fits;
         lines = λ es end p h. its_lines es end p;
         last = λ es p h. absurd (true≢false (sym (sym e ∙ end_is es true p)));
-        more = λ es xs x p h q. (refl, k.is ∙ ap (key_at page) at ∙ kept_last es xs x p q);
+        more = λ es xs x p h q. k.is ∙ ap (key_at page) at ∙ kept_last es xs x p q;
       }
         where
-          kept_last : (es xs : List Entry) (x : Entry) → IsPage paged page es false → es ≡ xs ++ (x ∷ []) → key_at page (last_at n page) ≡ x.0
+          kept_last : (es xs : List Entry) (x : Entry) → IsPage paged page es false → es ≡ xs ++ (x ∷ []) → key_at page (last_at g.entries page) ≡ x.0
           kept_last es xs x p q =
               let all : page ≡ entries_bytes (xs ++ (x ∷ [])) ++ p.rest = p.bytes ∙ ap (λ (z : List Entry). entries_bytes z ++ p.rest) q in
-              let count : n ≡ length (xs ++ (x ∷ [])) = entries_are es false p ∙ ap length q in
+              let count : g.entries ≡ length (xs ++ (x ∷ [])) = entries_are es false p ∙ ap length q in
               let keys : All IsKey (xs ++ (x ∷ [])) = subst (All IsKey) q p.keys in
-              let place : last_at n page ≡ last_at (length (xs ++ (x ∷ []))) (entries_bytes (xs ++ (x ∷ [])) ++ p.rest) = ap₂ last_at count all in
-              let from : drop (last_at n page) page ≡ entry_bytes x ++ p.rest = ap₂ (λ (i : ℕ) (l : List ℕ). drop i l) place all ∙ last_is xs x p.rest keys in
-              key_from page (last_at n page) ∙ ap (λ (l : List ℕ). key_at l 0) from ∙ its_key x p.rest (all_last xs x keys).fits
+              let place : last_at g.entries page ≡ last_at (length (xs ++ (x ∷ []))) (entries_bytes (xs ++ (x ∷ [])) ++ p.rest) = ap₂ last_at count all in
+              let from : drop (last_at g.entries page) page ≡ entry_bytes x ++ p.rest = ap₂ (λ (i : ℕ) (l : List ℕ). drop i l) place all ∙ last_is xs x p.rest keys in
+              key_from page (last_at g.entries page) ∙ ap (λ (l : List ℕ). key_at l 0) from ∙ its_key x p.rest (all_last xs x keys).fits

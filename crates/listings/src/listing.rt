@@ -1,4 +1,5 @@
-// Listings: pages fetched one after the other, and their entries written as lines.
+// Listings: pages fetched one after the other, and their entries written as lines. Output goes at the start of a lent slice, and its length comes back, as in
+// `line`.
 ghost use Rattle.std.specs.Prelude.{◌≡◌, ◌+◌, ◌*◌, ◌≤◌, ◌<◌, length, take};
 ghost use Rattle.model.specs.Page.{start, after_key};
 ghost use Rattle.index_spec.specs.Layout.{layout};
@@ -9,8 +10,8 @@ ghost use Rattle.line.specs.Code.{Wrote};
 ghost use Rattle.listings.specs.PageText.{page_text, last_at, key_at, Kept};
 ghost use Rattle.listings.specs.Listing.{output_room, WasShown, IsListed};
 
-use fields::big::read4;
-use index::pages::{Mode, Paged, first_page, next_page};
+use fields::big::read;
+use index::pages::{Mode, Page, PageError, first_page, next_page};
 use line::writing::{Answer, put_answer, put_entry};
 
 // More than the longest line of an entry.
@@ -22,12 +23,6 @@ const LINES_ROOM: usize = 141 * 511;
 // The entries that a page is asked for.
 const PAGE: usize = 16;
 
-fn size_of(x: u8) -> usize
-    ensures { (result ≡ x) × (result < 256) }
-{
-    x as usize
-}
-
 // The lines of the first `count` entries of a page, each written directly after the one before it.
 fn put_lines(count: usize, page: &[u8], out: &mut [u8]) -> usize
     requires { (74 * count ≤ length page.now) × (141 * count ≤ length out.old) }
@@ -36,12 +31,12 @@ fn put_lines(count: usize, page: &[u8], out: &mut [u8]) -> usize
     if count == 0 {
         return 0;
     }
-    let k = size_of(page[2]);
+    let k = usize::from(page[2]);
     if 64 < k {
         return 0;
     }
     let e = k + 3;
-    let v = read4(page, k + 6);
+    let v = read::<4>(page, k + 6);
     let n = put_entry(&page[3..e], v, out);
     let rest = k + 10;
     let m = put_lines(count - 1, &page[rest..], &mut out[n..]);
@@ -57,7 +52,7 @@ fn last_entry(count: usize, page: &[u8]) -> usize
     if count < 2 {
         return 0;
     }
-    let k = size_of(page[2]);
+    let k = usize::from(page[2]);
     if 64 < k {
         return 0;
     }
@@ -70,75 +65,48 @@ fn keep_key(page: &[u8], at: usize, key: &mut [u8]) -> usize
     requires { (at + 74 ≤ length page.now) × (64 ≤ length key.old) }
     ensures { Kept (key_at page.now at) key.old key.new result }
 {
-    let k = size_of(page[at + 2]);
+    let k = usize::from(page[at + 2]);
     if 64 < k {
         return 0;
     }
     let a = at + 3;
     let e = a + k;
-    fields::copy(&mut key[..k], &page[a..e]);
+    key[..k].copy_from_slice(&page[a..e]);
     k
 }
 
 // What was shown of a page: the bytes of its lines, and, if there are more entries, the size of the last key, which is kept.
-#[derive(Clone, Copy)]
+#[derive(Clone, Copy, Debug, PartialEq, Eq)]
 pub struct Shown {
     pub bytes: usize,
-    pub size: usize,
-    pub more: bool,
+    pub next: Option<usize>,
 }
 
 // The lines of a page, and its last key kept for the next one.
-fn show(paged: Paged, page: &[u8], key: &mut [u8], out: &mut [u8]) -> Shown
+fn show(paged: Result<Page, PageError>, page: &[u8], key: &mut [u8], out: &mut [u8]) -> Shown
     requires { (1184 ≤ length page.now) × (64 ≤ length key.old) }
     ensures { WasShown paged page.now key.new out.old out.new result }
 {
-    let Paged::Done {
-        entries,
-        bytes: _,
-        end,
-    } = paged
-    else {
-        return Shown {
-            bytes: 0,
-            size: 0,
-            more: false,
-        };
+    let nothing = Shown {
+        bytes: 0,
+        next: None,
     };
-    if PAGE < entries {
-        return Shown {
-            bytes: 0,
-            size: 0,
-            more: false,
-        };
+    let Ok(given) = paged else {
+        return nothing;
+    };
+    let entries = given.entries;
+    let end = given.end;
+    if PAGE < entries || out.len() < LINE_ROOM * entries {
+        return nothing;
     }
-    if out.len() < LINE_ROOM * entries {
-        return Shown {
-            bytes: 0,
-            size: 0,
-            more: false,
-        };
+    let bytes = put_lines(entries, page, out);
+    if end || entries == 0 {
+        return Shown { bytes, next: None };
     }
-    let n = put_lines(entries, page, out);
-    if end {
-        return Shown {
-            bytes: n,
-            size: 0,
-            more: false,
-        };
-    }
-    if entries == 0 {
-        return Shown {
-            bytes: n,
-            size: 0,
-            more: false,
-        };
-    }
-    let k = keep_key(page, last_entry(entries, page), key);
+    let size = keep_key(page, last_entry(entries, page), key);
     Shown {
-        bytes: n,
-        size: k,
-        more: true,
+        bytes,
+        next: Some(size),
     }
 }
 
@@ -162,12 +130,10 @@ fn list_rest(
     let paged = next_page(store, prefix, mode, &key[..size], PAGE as u32, page);
     let s = show(paged, page, key, out);
     let n = s.bytes;
-    if s.more {
-        let k = s.size;
-        let m = list_rest(store, prefix, mode, turns - 1, k, key, page, &mut out[n..]);
-        return n + m;
+    match s.next {
+        None => n,
+        Some(k) => n + list_rest(store, prefix, mode, turns - 1, k, key, page, &mut out[n..]),
     }
-    n
 }
 
 // All pages, which are at most 32: a store has 511 keys at most.
@@ -175,19 +141,25 @@ fn list_all(store: &[u8], prefix: &[u8], mode: Mode, out: &mut [u8]) -> usize
     requires { length out.old ≤ output_room }
     ensures { IsListed prefix.now mode start 32 store.now out.old out.new result }
 {
-    let mut page_space = [0u8; 1184];
-    let page: &mut [u8] = &mut page_space;
-    let mut key_space = [0u8; 64];
-    let key: &mut [u8] = &mut key_space;
-    let paged = first_page(store, prefix, mode, PAGE as u32, page);
-    let s = show(paged, page, key, out);
+    let mut page = [0u8; 1184];
+    let mut key = [0u8; 64];
+    let paged = first_page(store, prefix, mode, PAGE as u32, &mut page);
+    let s = show(paged, &page, &mut key, out);
     let n = s.bytes;
-    if s.more {
-        let k = s.size;
-        let m = list_rest(store, prefix, mode, 31, k, key, page, &mut out[n..]);
-        return n + m;
+    match s.next {
+        None => n,
+        Some(k) => n
+            + list_rest(
+                store,
+                prefix,
+                mode,
+                31,
+                k,
+                &mut key,
+                &mut page,
+                &mut out[n..],
+            ),
     }
-    n
 }
 
 // A listing and its `end`.

@@ -1,13 +1,15 @@
 // The descents. A descent ends at a leaf, at a branch from a stop position on, at a missing slot or at the last step: past the last position it is the
 // exact descent, and past the critical position it finds the place of an insertion. The closest descent goes to the lowest slot where one is missing.
+// That the capacity fits the store stands in each contract: docs/TRACE.md names these functions, and a type that holds both would ask more of their callers.
 ghost use Rattle.std.specs.Prelude.{◌≡◌, ◌≤◌, ◌<◌, ◌-◌, length};
 ghost use Rattle.node.specs.Layout.{start};
 ghost use Rattle.node.specs.Child.{number_in, to_branch};
-ghost use Rattle.trie_spec.specs.Walk.{steps, walk, near, first, higher as higher_of, way, closest_of, turned as turned_at, Ended, Lies, OnWay, Nearby, Sound};
+ghost use Rattle.trie_spec.specs.Walk.{steps, walk, near, first, higher as higher_of, way, closest_of, Ended, Lands, OnWay, Nearby, Sound};
 
 use crate::keys::nibble;
-use node::branch::{follow, follow_or_head};
-use node::child::{BranchNo, Child, Link, Next};
+use node::NotAStore;
+use node::branch::{follow_or_head, get_child};
+use node::child::{BranchNo, Child, Link};
 use node::layout::KEY_LIMIT;
 pub use trie_spec::descent::{Closest, Near, Spot, Step, Walked, Way};
 
@@ -17,6 +19,8 @@ pub const DEPTH: usize = 2 * KEY_LIMIT;
 pub const STEPS: usize = DEPTH + 1;
 
 // The loops go from a branch on, and keep its number and its position apart: a number stays in a register where a link would be packed and unpacked.
+// Document 01 names their form: a loop that yields by `break` what it meets, with the step count as falling number. The leaf below a branch that is met with
+// one step left lies deeper than a picture's.
 fn descend_below(
     store: &[u8],
     capacity: u16,
@@ -24,10 +28,10 @@ fn descend_below(
     branch: BranchNo,
     place: u8,
     stop: usize,
-) -> Walked
+) -> Result<Walked, NotAStore>
     requires { (start capacity ≤ length store.now) × (branch.0 < capacity) }
     ensures is { result ≡ walk store.now capacity key.now stop steps (first (to_branch branch.0 place)) }
-    ensures lies { Lies capacity result }
+    ensures lies { Lands capacity result }
 {
     let mut number = branch.0;
     let mut position = place;
@@ -36,13 +40,13 @@ fn descend_below(
     let mut left: usize = STEPS;
     loop {
         if left == 0 {
-            break Walked::Wrong;
+            break Err(NotAStore);
         }
         let here = BranchNo(number);
         let p = position as usize;
         if stop <= p {
             let child = Child::Branch(here);
-            break Walked::At(
+            break Ok(Walked::At(
                 child,
                 Step {
                     child,
@@ -50,16 +54,21 @@ fn descend_below(
                     at,
                     above,
                 },
-            );
+            ));
         }
         let slot = nibble(key, p);
-        match follow(store, here, slot, capacity) {
-            Next::Leaf(n, met) => {
+        match get_child(store, here, slot, capacity)? {
+            Some(
+                Link {
+                    child: Child::Leaf(n),
+                    position: met,
+                },
+            ) => {
                 if left == 1 {
-                    break Walked::Wrong;
+                    break Err(NotAStore);
                 }
                 let child = Child::Leaf(n);
-                break Walked::At(
+                break Ok(Walked::At(
                     child,
                     Step {
                         child,
@@ -67,31 +76,41 @@ fn descend_below(
                         at: Spot::Under(here, slot),
                         above: at,
                     },
-                );
+                ));
             }
-            Next::Branch(b, met) => {
+            Some(
+                Link {
+                    child: Child::Branch(b),
+                    position: met,
+                },
+            ) => {
                 number = b.0;
                 position = met;
                 above = at;
                 at = Spot::Under(here, slot);
                 left -= 1;
             }
-            Next::Absent => break Walked::Missing(here, slot),
-            Next::Wrong => break Walked::Wrong,
+            None => break Ok(Walked::Missing(here, slot)),
         }
     }
 }
 
-pub fn descend(store: &[u8], capacity: u16, key: &[u8], root: Link, stop: usize) -> Walked
+pub fn descend(
+    store: &[u8],
+    capacity: u16,
+    key: &[u8],
+    root: Link,
+    stop: usize,
+) -> Result<Walked, NotAStore>
     requires { (start capacity ≤ length store.now) × (number_in root.child < capacity) }
     ensures is { result ≡ walk store.now capacity key.now stop steps (first root) }
-    ensures lies { Lies capacity result }
+    ensures lies { Lands capacity result }
 {
     let child = root.child;
     let position = root.position;
     match child {
         Child::Leaf(_n) => {
-            Walked::At(
+            Ok(Walked::At(
                 child,
                 Step {
                     child,
@@ -99,7 +118,7 @@ pub fn descend(store: &[u8], capacity: u16, key: &[u8], root: Link, stop: usize)
                     at: Spot::Root,
                     above: Spot::Root,
                 },
-            )
+            ))
         }
         Child::Branch(b) => descend_below(store, capacity, key, b, position, stop),
     }
@@ -113,40 +132,55 @@ fn closest_from(
     branch: BranchNo,
     place: u8,
     above: usize,
-) -> Closest
+) -> Result<Closest, NotAStore>
     requires { (start capacity ≤ length store.now) × (branch.0 < capacity) × (above < steps) }
     ensures is { result ≡ near store.now capacity key.now (steps - above) above (to_branch branch.0 place) }
     ensures sound { Sound capacity result }
 {
     let mut number = branch.0;
     let mut position = place;
-    let mut depth: usize = above;
     let mut left: usize = STEPS - above;
     loop {
         if left == 0 {
-            break Closest::Wrong;
+            break Err(NotAStore);
         }
         let slot = nibble(key, position as usize);
-        match follow_or_head(store, BranchNo(number), slot, capacity) {
-            Next::Leaf(n, _p) => {
+        match follow_or_head(store, BranchNo(number), slot, capacity)? {
+            Some(
+                Link {
+                    child: Child::Leaf(leaf),
+                    position: _,
+                },
+            ) => {
                 if left == 1 {
-                    break Closest::Wrong;
+                    break Err(NotAStore);
                 }
-                break Closest::Leaf(n, depth + 1);
+                break Ok(Closest {
+                    leaf,
+                    depth: STEPS - left + 1,
+                });
             }
-            Next::Branch(b, p) => {
+            Some(
+                Link {
+                    child: Child::Branch(b),
+                    position: p,
+                },
+            ) => {
                 number = b.0;
                 position = p;
-                depth += 1;
                 left -= 1;
             }
-            Next::Absent => break Closest::Wrong,
-            Next::Wrong => break Closest::Wrong,
+            None => break Err(NotAStore),
         }
     }
 }
 
-pub fn find_closest_leaf(store: &[u8], capacity: u16, key: &[u8], root: Link) -> Closest
+pub fn find_closest_leaf(
+    store: &[u8],
+    capacity: u16,
+    key: &[u8],
+    root: Link,
+) -> Result<Closest, NotAStore>
     requires { (start capacity ≤ length store.now) × (number_in root.child < capacity) }
     ensures is { result ≡ near store.now capacity key.now steps 0 root }
     ensures sound { Sound capacity result }
@@ -154,7 +188,7 @@ pub fn find_closest_leaf(store: &[u8], capacity: u16, key: &[u8], root: Link) ->
     let child = root.child;
     let position = root.position;
     match child {
-        Child::Leaf(n) => Closest::Leaf(n, 0),
+        Child::Leaf(leaf) => Ok(Closest { leaf, depth: 0 }),
         Child::Branch(b) => closest_from(store, capacity, key, b, position, 0),
     }
 }
@@ -166,33 +200,43 @@ fn higher(a: u8, b: u8) -> u8
 }
 
 // The way down by the key's nibbles, as far as it goes, with the highest position on it: every descent to a position past that one ends where it does.
-fn way_below(store: &[u8], capacity: u16, key: &[u8], branch: BranchNo, place: u8) -> Way
+fn way_below(
+    store: &[u8],
+    capacity: u16,
+    key: &[u8],
+    branch: BranchNo,
+    place: u8,
+) -> Result<Way, NotAStore>
     requires { (start capacity ≤ length store.now) × (branch.0 < capacity) }
     ensures is { result ≡ way store.now capacity key.now steps 0 0 (first (to_branch branch.0 place)) }
     ensures on { OnWay capacity result }
 {
     let mut number = branch.0;
     let mut position = place;
-    let mut depth: usize = 0;
     let mut high: u8 = 0;
     let mut at = Spot::Root;
     let mut left: usize = STEPS;
     loop {
         if left == 0 {
-            break Way::Wrong;
+            break Err(NotAStore);
         }
         let top = higher(high, position);
         let here = BranchNo(number);
         let slot = nibble(key, position as usize);
-        match follow(store, here, slot, capacity) {
-            Next::Leaf(n, met) => {
+        match get_child(store, here, slot, capacity)? {
+            Some(
+                Link {
+                    child: Child::Leaf(n),
+                    position: met,
+                },
+            ) => {
                 if left == 1 {
-                    break Way::Wrong;
+                    break Err(NotAStore);
                 }
                 let child = Child::Leaf(n);
-                break Way::Leaf(
+                break Ok(Way::Leaf(
                     n,
-                    depth + 1,
+                    STEPS - left + 1,
                     Step {
                         child,
                         position: met,
@@ -200,23 +244,26 @@ fn way_below(store: &[u8], capacity: u16, key: &[u8], branch: BranchNo, place: u
                         above: at,
                     },
                     top,
-                );
+                ));
             }
-            Next::Branch(b, met) => {
+            Some(
+                Link {
+                    child: Child::Branch(b),
+                    position: met,
+                },
+            ) => {
                 number = b.0;
                 position = met;
-                depth += 1;
                 at = Spot::Under(here, slot);
                 high = top;
                 left -= 1;
             }
-            Next::Absent => break Way::Off(here, slot, position, depth, top),
-            Next::Wrong => break Way::Wrong,
+            None => break Ok(Way::Off(here, slot, position, STEPS - left, top)),
         }
     }
 }
 
-fn find_way(store: &[u8], capacity: u16, key: &[u8], root: Link) -> Way
+fn find_way(store: &[u8], capacity: u16, key: &[u8], root: Link) -> Result<Way, NotAStore>
     requires { (start capacity ≤ length store.now) × (number_in root.child < capacity) }
     ensures is { result ≡ way store.now capacity key.now steps 0 0 (first root) }
     ensures on { OnWay capacity result }
@@ -225,7 +272,7 @@ fn find_way(store: &[u8], capacity: u16, key: &[u8], root: Link) -> Way
     let position = root.position;
     match child {
         Child::Leaf(n) => {
-            Way::Leaf(
+            Ok(Way::Leaf(
                 n,
                 0,
                 Step {
@@ -235,36 +282,37 @@ fn find_way(store: &[u8], capacity: u16, key: &[u8], root: Link) -> Way
                     above: Spot::Root,
                 },
                 0,
-            )
+            ))
         }
         Child::Branch(b) => way_below(store, capacity, key, b, position),
     }
 }
 
-fn turned(branch: BranchNo, slot: u8, high: u8, closest: Closest) -> Near
-    ensures { result ≡ turned_at branch slot high closest }
-{
-    match closest {
-        Closest::Leaf(n, depth) => Near::Leaf(n, depth, Walked::Missing(branch, slot), high),
-        Closest::Wrong => Near::Wrong,
-    }
-}
-
 // The closest leaf, and where the way down by the key's nibbles ends: most insertions need no second descent, for this one tells where the new leaf goes.
-pub fn find_near(store: &[u8], capacity: u16, key: &[u8], root: Link) -> Near
+pub fn find_near(store: &[u8], capacity: u16, key: &[u8], root: Link) -> Result<Near, NotAStore>
     requires { (start capacity ≤ length store.now) × (number_in root.child < capacity) }
     ensures is { closest_of result ≡ near store.now capacity key.now steps 0 root }
     ensures ended { Ended store.now capacity key.now root result }
     ensures nearby { Nearby capacity result }
 {
-    match find_way(store, capacity, key, root) {
-        Way::Leaf(n, depth, step, high) => {
-            let child = Child::Leaf(n);
-            Near::Leaf(n, depth, Walked::At(child, step), high)
+    match find_way(store, capacity, key, root)? {
+        Way::Leaf(leaf, depth, step, high) => {
+            let child = Child::Leaf(leaf);
+            Ok(Near {
+                leaf,
+                depth,
+                end: Walked::At(child, step),
+                high,
+            })
         }
         Way::Off(b, s, p, depth, high) => {
-            turned(b, s, high, closest_from(store, capacity, key, b, p, depth))
+            let closest = closest_from(store, capacity, key, b, p, depth)?;
+            Ok(Near {
+                leaf: closest.leaf,
+                depth: closest.depth,
+                end: Walked::Missing(b, s),
+                high,
+            })
         }
-        Way::Wrong => Near::Wrong,
     }
 }

@@ -1,64 +1,84 @@
 // Exact lookup: one descent, and the leaf's key compared.
+// That the capacity fits the store stands in each contract: docs/TRACE.md names these functions, and a type that holds both would ask more of their callers.
 ghost use Rattle.std.specs.Prelude.{◌≡◌, ◌≤◌, ◌<◌, length};
 ghost use Rattle.node.specs.Layout.{start};
 ghost use Rattle.node.specs.Child.{number_in, to_branch};
 ghost use Rattle.trie_spec.specs.Walk.{steps};
-ghost use Rattle.trie_spec.specs.Find.{matched, find_from, find_in, Stands, found_at, ends, compared as compared_with, Below};
+ghost use Rattle.trie_spec.specs.Find.{matched, find_from, find_in, Stands, found_at, ends, Below};
 
 use crate::descent::{STEPS, descend};
 use crate::keys::nibble;
-use node::branch::follow;
-use node::child::{BranchNo, Child, Link, Linked, Next, link_of};
+use node::NotAStore;
+use node::branch::get_child;
+use node::child::{BranchNo, Child, LeafNo, Link, link_of};
 use node::header::Header;
 use trie_spec::descent::{Step, Walked};
-pub use trie_spec::find::{Exact, Found};
 
 // Past every position.
 const NO_STOP: usize = 256;
 
-// A leaf that a descent met: the one looked for, or another.
-fn matching(store: &[u8], capacity: u16, key: &[u8], met: Child, step: Step) -> Exact
+// A leaf that a descent met, if its key is the one looked for.
+fn matching(
+    store: &[u8],
+    capacity: u16,
+    key: &[u8],
+    met: Child,
+    step: Step,
+) -> Result<Option<(LeafNo, Step)>, NotAStore>
     requires { (start capacity ≤ length store.now) × (number_in met < capacity) }
     ensures { result ≡ matched store.now key.now met step }
 {
     let Child::Leaf(n) = met else {
-        return Exact::Wrong;
+        return Err(NotAStore);
     };
-    if fields::same(key, node::leaf::key(store, n)) {
-        return Exact::Leaf(n, step);
+    if !fields::same(key, node::leaf::key(store, n)) {
+        return Ok(None);
     }
-    Exact::Absent
+    Ok(Some((n, step)))
 }
 
-fn find_from(store: &[u8], capacity: u16, key: &[u8], root: Link) -> Exact
+fn find_from(
+    store: &[u8],
+    capacity: u16,
+    key: &[u8],
+    root: Link,
+) -> Result<Option<(LeafNo, Step)>, NotAStore>
     requires { (start capacity ≤ length store.now) × (number_in root.child < capacity) }
     ensures is { result ≡ find_from store.now capacity key.now root }
     ensures stands { Stands capacity result }
 {
-    match descend(store, capacity, key, root, NO_STOP) {
+    match descend(store, capacity, key, root, NO_STOP)? {
         Walked::At(met, step) => matching(store, capacity, key, met, step),
-        Walked::Missing(_b, _s) => Exact::Absent,
-        Walked::Wrong => Exact::Wrong,
+        Walked::Missing(_b, _s) => Ok(None),
     }
 }
 
-// The leaf of a key in a store whose header is h.
-pub fn find_exact_leaf(store: &[u8], h: Header, key: &[u8]) -> Exact
+// The leaf of a key in a store whose header is h, and the last step of the descent to it.
+pub fn find_exact_leaf(
+    store: &[u8],
+    h: Header,
+    key: &[u8],
+) -> Result<Option<(LeafNo, Step)>, NotAStore>
     requires { start h.capacity ≤ length store.now }
     ensures is { result ≡ find_in store.now h key.now }
     ensures stands { Stands h.capacity result }
 {
     if h.leaves == 0 {
-        return Exact::Absent;
+        return Ok(None);
     }
-    let Linked::To(root) = link_of(h.root, h.capacity) else {
-        return Exact::Wrong;
-    };
+    let root = link_of(h.root, h.capacity)?;
     find_from(store, h.capacity, key, root)
 }
 
 // The leaf at the end of the way down from a branch, whatever its key is.
-fn seek_below(store: &[u8], capacity: u16, key: &[u8], branch: BranchNo, place: u8) -> Found
+// Document 01 names the loop's form: it yields by `break` what it meets, with the step count as falling number.
+fn seek_below(
+    store: &[u8],
+    capacity: u16,
+    key: &[u8],
+    branch: BranchNo,
+    place: u8,
+) -> Result<Option<LeafNo>, NotAStore>
     requires { (start capacity ≤ length store.now) × (branch.0 < capacity) }
     ensures is { result ≡ ends store.now capacity key.now steps (to_branch branch.0 place) }
     ensures below { Below capacity result }
@@ -68,28 +88,37 @@ fn seek_below(store: &[u8], capacity: u16, key: &[u8], branch: BranchNo, place: 
     let mut left: usize = STEPS;
     loop {
         if left == 0 {
-            break Found::Wrong;
+            break Err(NotAStore);
         }
         let slot = nibble(key, position as usize);
-        match follow(store, BranchNo(number), slot, capacity) {
-            Next::Leaf(n, _p) => {
+        match get_child(store, BranchNo(number), slot, capacity)? {
+            Some(
+                Link {
+                    child: Child::Leaf(n),
+                    position: _,
+                },
+            ) => {
                 if left == 1 {
-                    break Found::Wrong;
+                    break Err(NotAStore);
                 }
-                break Found::Leaf(n);
+                break Ok(Some(n));
             }
-            Next::Branch(b, p) => {
+            Some(
+                Link {
+                    child: Child::Branch(b),
+                    position: p,
+                },
+            ) => {
                 number = b.0;
                 position = p;
                 left -= 1;
             }
-            Next::Absent => break Found::Absent,
-            Next::Wrong => break Found::Wrong,
+            None => break Ok(None),
         }
     }
 }
 
-fn seek(store: &[u8], capacity: u16, key: &[u8], root: Link) -> Found
+fn seek(store: &[u8], capacity: u16, key: &[u8], root: Link) -> Result<Option<LeafNo>, NotAStore>
     requires { (start capacity ≤ length store.now) × (number_in root.child < capacity) }
     ensures is { result ≡ ends store.now capacity key.now steps root }
     ensures below { Below capacity result }
@@ -97,37 +126,32 @@ fn seek(store: &[u8], capacity: u16, key: &[u8], root: Link) -> Found
     let child = root.child;
     let position = root.position;
     match child {
-        Child::Leaf(n) => Found::Leaf(n),
+        Child::Leaf(n) => Ok(Some(n)),
         Child::Branch(b) => seek_below(store, capacity, key, b, position),
     }
 }
 
-// The leaf met, if its key is the one looked for.
-fn compared(store: &[u8], capacity: u16, key: &[u8], met: Found) -> Found
-    requires { (start capacity ≤ length store.now) × Below capacity met }
-    ensures is { result ≡ compared_with store.now key.now met }
-    ensures below { Below capacity result }
-{
-    let Found::Leaf(n) = met else {
-        return met;
-    };
-    if fields::same(key, node::leaf::key(store, n)) {
-        return Found::Leaf(n);
-    }
-    Found::Absent
-}
-
 // The leaf of a key, without the way to it: what a lookup needs that changes no link. Three numbers of the header go in, since numbers stay in registers.
-pub fn find_leaf(store: &[u8], capacity: u16, leaves: u16, root: u32, key: &[u8]) -> Found
+pub fn find_leaf(
+    store: &[u8],
+    capacity: u16,
+    leaves: u16,
+    root: u32,
+    key: &[u8],
+) -> Result<Option<LeafNo>, NotAStore>
     requires { start capacity ≤ length store.now }
     ensures is { result ≡ found_at store.now capacity leaves root key.now }
     ensures below { Below capacity result }
 {
     if leaves == 0 {
-        return Found::Absent;
+        return Ok(None);
     }
-    let Linked::To(top) = link_of(root, capacity) else {
-        return Found::Wrong;
+    let top = link_of(root, capacity)?;
+    let Some(n) = seek(store, capacity, key, top)? else {
+        return Ok(None);
     };
-    compared(store, capacity, key, seek(store, capacity, key, top))
+    if fields::same(key, node::leaf::key(store, n)) {
+        return Ok(Some(n));
+    }
+    Ok(None)
 }

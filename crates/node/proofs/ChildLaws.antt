@@ -1,5 +1,5 @@
 -- A link and its item: what is written is read back, and the item fits its 3 bytes. Assumes nothing.
-use mathlib.Core.Path.{◌≡◌, refl, sym, ap, ◌∙◌}
+use mathlib.Core.Path.{◌≡◌, refl, ◌∙◌}
 use Prim.Native.Nat.{ℕ, ◌+◌, ◌-◌, ◌*◌, ◌/◌, ◌%◌, ◌≤◌, ◌<◌}
 use native.Mathlib.Nat.{add-mul-mod_self_right, add-mul-div_right, mod-eq_of_lt}
 use native.Mathlib.Omega.{arith}
@@ -7,15 +7,12 @@ use mathlib.Core.Bool.{Bool, true, false, cond}
 use lib.Dec.{ltb}
 use borrow.Author.Tests.{lt-ltb, le-ltb, ltb-true}
 use Rattle.model.specs.Numbers.{most}
-use Rattle.node.specs.Child.{to_leaf, to_branch, link_of, next_to, next_of, number_in, code_of, item_of}
+use Rattle.node.specs.Child.{to_leaf, to_branch, link_of, number_in, code_of, item_of}
+use Rattle.std.specs.Prelude.{Ok, Err}
+use Rattle.node.specs.NotAStore.{not_a_store}
 use Rattle.node.specs.declared.child.Child.{Child}
 use Rattle.node.specs.declared.child.Child.TheVariants.{Leaf, Branch}
 use Rattle.node.specs.declared.child.Link.{Link}
-use Rattle.node.specs.declared.child.Linked.{Linked}
-use Rattle.node.specs.declared.child.Linked.TheVariants.{To, Absent, Wrong}
-use Rattle.node.specs.declared.child.Next.{Next}
-use Rattle.node.specs.declared.child.LeafNo.{LeafNo}
-use Rattle.node.specs.declared.child.BranchNo.{BranchNo}
 
 pub item_fits : (l : Link) → number_in l.child < most → l.position < 256 → item_of l < 16777216
 item_fits l h p = omega (arith, code_fits l.child h)
@@ -35,10 +32,10 @@ module _ (code p : ℕ) (h : code < 65536) (q : p < 256) where
       rw (add-mul-div_right code p {z = 65536} (omega arith), z) (omega arith)
 
 module _ (cap : ℕ) (fits : cap ≤ most) (n p : ℕ) (h : n < cap) (q : p < 256) where
-  pub leaf_back : link_of cap (item_of (to_leaf n p)) ≡ To (to_leaf n p)
+  pub leaf_back : link_of cap (item_of (to_leaf n p)) ≡ Ok (to_leaf n p)
   leaf_back = rw (code_part n p (omega arith) q, position_part n p (omega arith) q, lt-ltb n cap h)
 
-  pub branch_back : link_of cap (item_of (to_branch n p)) ≡ To (to_branch n p)
+  pub branch_back : link_of cap (item_of (to_branch n p)) ≡ Ok (to_branch n p)
   branch_back =
       let e : most + n - most ≡ n = omega arith in
       rw (
@@ -55,7 +52,7 @@ pub apart : (cap n p m q : ℕ) → cap ≤ most → n < cap → item_of (to_lea
 apart cap n p m q fits h e k = omega arith
 
 -- what a link leads to is a record of the store: its number is below the capacity
-pub within : (cap item : ℕ) (l : Link) → link_of cap item ≡ To l → number_in l.child < cap
+pub within : (cap item : ℕ) (l : Link) → link_of cap item ≡ Ok l → number_in l.child < cap
 within cap item l e = go (ltb code cap) refl (ltb code most) (ltb (code - most) cap) refl e
   where
     code : ℕ
@@ -65,41 +62,8 @@ within cap item l e = go (ltb code cap) refl (ltb code most) (ltb (code - most) 
     p = item / 65536 % 256
 
     go : (s : Bool) → ltb code cap ≡ s → (t u : Bool) → ltb (code - most) cap ≡ u
-        → cond s (To (to_leaf code p)) (cond t Wrong (cond u (To (to_branch (code - most) p)) Wrong)) ≡ To l → number_in l.child < cap
+        → cond s (Ok (to_leaf code p)) (cond t (Err not_a_store) (cond u (Ok (to_branch (code - most) p)) (Err not_a_store))) ≡ Ok l → number_in l.child < cap
     go true i t u j e = let q : to_leaf code p ≡ l = cc in rw (← q) (ltb-true code cap i)
     go false i true u j e = absurd (let z : ◌≡◌ {A = ℕ} 0 1 = cc in omega arith)
     go false i false true j e = let q : to_branch (code - most) p ≡ l = cc in rw (← q) (ltb-true (code - most) cap j)
     go false i false false j e = absurd (let z : ◌≡◌ {A = ℕ} 0 1 = cc in omega arith)
-
--- ---- what a link leads to tells the link
-
-abbrev link_from : Next → Linked
-link_from (Next.Leaf n p) = To (record { child = Leaf n; position = p })
-link_from (Next.Branch n p) = To (record { child = Branch n; position = p })
-link_from Next.Absent = Absent
-link_from Next.Wrong = Wrong
-
-module _ (x : Next) (r : Linked) (e : x ≡ next_of r) where
-  tells : link_from x ≡ r
-  tells = ap link_from e ∙ back r
-    where
-      same : (l : Link) (c : Child) → l.child ≡ c → link_from (next_to c l.position) ≡ To l
-      same l (Leaf n) i = ap (λ (d : Child). To (record { child = d; position = l.position })) (sym i)
-      same l (Branch n) i = ap (λ (d : Child). To (record { child = d; position = l.position })) (sym i)
-
-      back : (r : Linked) → link_from (next_of r) ≡ r
-      back (To l) = same l l.child refl
-      back Absent = refl
-      back Wrong = refl
-
-  pub leads_to_leaf : (n : LeafNo) (p : ℕ) → x ≡ Next.Leaf n p → To (record { child = Leaf n; position = p }) ≡ r
-  leads_to_leaf n p i = ap link_from (sym i) ∙ tells
-
-  pub leads_to_branch : (n : BranchNo) (p : ℕ) → x ≡ Next.Branch n p → To (record { child = Branch n; position = p }) ≡ r
-  leads_to_branch n p i = ap link_from (sym i) ∙ tells
-
-  pub leads_nowhere : x ≡ Next.Absent → Absent ≡ r
-  leads_nowhere i = ap link_from (sym i) ∙ tells
-
-  pub leads_wrong : x ≡ Next.Wrong → Wrong ≡ r
-  leads_wrong i = ap link_from (sym i) ∙ tells

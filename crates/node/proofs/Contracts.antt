@@ -1,9 +1,9 @@
 -- A law for each way out of a function: from its callees' contracts to its own. Assumes nothing.
-use mathlib.Core.Path.{◌≡◌, refl, sym, ap, ◌∙◌}
+use mathlib.Core.Path.{◌≡◌, sym, ap, ◌∙◌}
 use mathlib.Core.Bool.{true}
-use mathlib.Core.Option.{Option, none, some}
+use Rattle.std.specs.Prelude.{Option as CodeOption, Some, Result, IsSome}
 use mathlib.Core.List.{List, [], ◌∷◌, ◌++◌}
-use Prim.Native.Nat.{ℕ, ◌+◌, ◌-◌, ◌≤◌, ◌<◌}
+use Prim.Native.Nat.{ℕ, min, ◌+◌, ◌-◌, ◌≤◌, ◌<◌}
 use native.Mathlib.Omega.{arith}
 use lib.Dec.{leb, eqb}
 use lib.ListN.{length, get_or, take, drop, length-take}
@@ -13,50 +13,47 @@ use Rattle.model.specs.Numbers.{most, least_size, capacity_of}
 use Rattle.fields.specs.Part.{splice}
 use Rattle.fields.specs.Number.{little, little_bytes}
 use Rattle.fields.proofs.PartLaws.{lent, lent_back, length_part, length_splice}
-use Rattle.bitmap.specs.Entries.{lookup, nth, below, head, erase}
+use Rattle.bitmap.specs.Entries.{below}
 use Rattle.sparse_array.specs.Array.{size, entries, with_slot, without_slot, cleared}
-use Rattle.sparse_array.specs.Answers.{got, got_or_head, or_else, placed, WasSet, WasRemoved}
-use Rattle.sparse_array.specs.declared.Got.{Got}
-use Rattle.sparse_array.specs.declared.Place.{Place}
+use Rattle.sparse_array.specs.Answers.{placed, WasSet, WasRemoved}
+use Rattle.sparse_array.specs.declared.NoSlot.{NoSlot}
 use Rattle.sparse_array.specs.declared.Put.{Put}
-use Rattle.sparse_array.specs.declared.Removed.{Removed}
 use Rattle.sparse_array.proofs.ItemLaws.{length_bitmap}
 use Rattle.sparse_array.proofs.ArrayLaws.{below_bound, length_set_bytes, length_remove_bytes}
 use Rattle.node.specs.Layout.{start, array_at, size_at, value_at, Room}
-use Rattle.node.specs.Child.{decoded, next_of, item_of}
+use Rattle.node.specs.Child.{to_leaf, to_branch, decoded, item_of}
 use Rattle.node.specs.Leaf.{key_size, leaf_in, set_leaf, set_value}
-use Rattle.node.specs.Branch.{array_in, children_in, linked, linked_got, linked_in, head_link, near_in, set_array, set_child, remove_child, two_slots, make_branch}
+use Rattle.node.specs.Branch.{array_in, children_in, set_array, set_child, remove_child, two_slots, make_branch}
 use Rattle.node.specs.Header.{magic, mark_in, header, head_in, head_of, set_head, set_mark}
 use Rattle.node.specs.declared.child.Link.{Link}
-use Rattle.node.specs.declared.child.Linked.{Linked}
-use Rattle.node.specs.declared.child.Next.{Next}
 use Rattle.node.specs.declared.header.Header.{Header}
-use Rattle.node.specs.declared.header.Head.TheVariants.{Good, Bad}
+use Rattle.std.specs.Prelude.{Ok, Err}
+use Rattle.node.specs.NotAStore.{not_a_store}
 
--- ---- links
+-- ---- links: the code of each kind of record, and a code that names none
 
 module _ (cap code p : ℕ) where
-  pub is_leaf : code < cap → Next.Leaf (record { 0 = code }) p ≡ next_of (decoded cap code p)
+  pub is_leaf : code < cap → Ok (to_leaf code p) ≡ decoded cap code p
   is_leaf h = rw (lt-ltb code cap h)
 
-  pub is_between : cap ≤ code → code < most → Next.Wrong ≡ next_of (decoded cap code p)
+  pub is_between : cap ≤ code → code < most → Err not_a_store ≡ decoded cap code p
   is_between h k = rw (le-ltb code cap h, lt-ltb code most k)
 
-  pub is_branch : cap ≤ code → most ≤ code → code - most < cap → Next.Branch (record { 0 = code - most }) p ≡ next_of (decoded cap code p)
+  pub is_branch : cap ≤ code → most ≤ code → code - most < cap → Ok (to_branch (code - most) p) ≡ decoded cap code p
   is_branch h k l = rw (le-ltb code cap h, le-ltb code most k, lt-ltb (code - most) cap l)
 
-  pub is_past : cap ≤ code → most ≤ code → cap ≤ code - most → Next.Wrong ≡ next_of (decoded cap code p)
+  pub is_past : cap ≤ code → most ≤ code → cap ≤ code - most → Err not_a_store ≡ decoded cap code p
   is_past h k l = rw (le-ltb code cap h, le-ltb code most k, le-ltb (code - most) cap l)
 
 -- ---- the header
 
 -- what fails, in the order of the tests
 module _ (st : List ℕ) where
-  pub bad_short : length st < least_size → Bad ≡ head_of st
+  pub bad_short : length st < least_size → Err not_a_store ≡ head_of st
   unfolding head_of
   bad_short h = rw (lt-leb least_size (length st) h)
 
-  pub bad_mark : least_size ≤ length st → (m : ℕ) → m ≡ little 4 st 0 → (m ≡ magic → ⊥) → Bad ≡ head_of st
+  pub bad_mark : least_size ≤ length st → (m : ℕ) → m ≡ little 4 st 0 → (m ≡ magic → ⊥) → Err not_a_store ≡ head_of st
   unfolding head_of mark_in
   bad_mark h m e ne = rw (le-leb least_size (length st) h, ← e, ne_eqb m magic ne)
 
@@ -65,21 +62,21 @@ module _ (st : List ℕ) where
     unfolding mark_in
     marked = eq-eqb (little 4 st 0) magic (sym e ∙ is)
 
-    pub bad_capacity : (n : ℕ) → n ≡ capacity_of (length st) → (k.capacity ≡ n → ⊥) → Bad ≡ head_of st
+    pub bad_capacity : (n : ℕ) → n ≡ capacity_of (length st) → (k.capacity ≡ n → ⊥) → Err not_a_store ≡ head_of st
     unfolding head_of
     bad_capacity n r ne = rw (le-leb least_size (length st) h, marked, ← q, ← r, ne_eqb k.capacity n ne)
 
     module _ (n : ℕ) (r : n ≡ capacity_of (length st)) (c : k.capacity ≡ n) where
-      pub bad_leaves : k.capacity < k.leaves → Bad ≡ head_of st
+      pub bad_leaves : k.capacity < k.leaves → Err not_a_store ≡ head_of st
       unfolding head_of
       bad_leaves l = rw (le-leb least_size (length st) h, marked, ← q, eq-eqb k.capacity (capacity_of (length st)) (c ∙ r), lt-leb k.leaves k.capacity l)
 
-      pub bad_branches : k.leaves ≤ k.capacity → k.capacity < k.branches → Bad ≡ head_of st
+      pub bad_branches : k.leaves ≤ k.capacity → k.capacity < k.branches → Err not_a_store ≡ head_of st
       unfolding head_of
       bad_branches l b =
           rw (le-leb least_size (length st) h, marked, ← q, eq-eqb k.capacity (capacity_of (length st)) (c ∙ r), le-leb k.leaves k.capacity l, lt-leb k.branches k.capacity b)
 
-      pub good_head : k.leaves ≤ k.capacity → k.branches ≤ k.capacity → Good k ≡ head_of st
+      pub good_head : k.leaves ≤ k.capacity → k.branches ≤ k.capacity → Ok k ≡ head_of st
       unfolding head_of
       good_head l b =
           rw (le-leb least_size (length st) h, marked, ← q, eq-eqb k.capacity (capacity_of (length st)) (c ∙ r), le-leb k.leaves k.capacity l, le-leb k.branches k.capacity b)
@@ -102,13 +99,9 @@ mark_written st s e = e
 -- ---- leaf records
 
 module _ (st : List ℕ) (n a : ℕ) where
-  pub key_short : (x : ℕ) → a ≡ size_at n → x ≡ get_or st a 0 → x ≤ key_limit → x ≡ key_size (leaf_in st n).size
+  pub key_capped : (x : ℕ) → a ≡ size_at n → x ≡ min (get_or st a 0) key_limit → (x ≡ key_size (leaf_in st n).size) × (x ≤ key_limit)
   unfolding leaf_in
-  key_short x p q h = rw (← p, ← q) (omega arith)
-
-  pub key_over : (x : ℕ) → a ≡ size_at n → x ≡ get_or st a 0 → key_limit < x → key_limit ≡ key_size (leaf_in st n).size
-  unfolding leaf_in
-  key_over x p q h = rw (← p, ← q) (omega arith)
+  key_capped x p q = (rw (← p) q, omega arith)
 
   pub size_fits : (x : ℕ) → a ≡ size_at n → x ≡ get_or st a 0 → leb x key_limit ≡ leb (leaf_in st n).size key_limit
   unfolding leaf_in
@@ -157,14 +150,14 @@ module _ (st : List ℕ) (n a : ℕ) (is : a ≡ array_at n) where
   pub back : (p : List ℕ) → Room st n → length p ≡ size → take a st ++ (p ++ drop (a + size - a) (drop a st)) ≡ set_array st n p
   back p room l = lent_back st a size p (omega arith) l ∙ rw is
 
-  pub child_set : (p : List ℕ) (r : Put) (slot item : ℕ) (l : Link) → Room st n → item ≡ item_of l → WasSet slot item (take (a + size - a) (drop a st)) p r
+  pub child_set : (p : List ℕ) (r : Result Put NoSlot) (slot item : ℕ) (l : Link) → Room st n → item ≡ item_of l → WasSet slot item (take (a + size - a) (drop a st)) p r
       → take a st ++ (p ++ drop (a + size - a) (drop a st)) ≡ set_child st n slot l
   unfolding set_child
   child_set p r slot item l room e w =
       let q : p ≡ with_slot slot (item_of l) (array_in st n) = w.bytes ∙ rw (array_is, e) in
       back p room (ap length w.bytes ∙ length_set_bytes slot item (take (a + size - a) (drop a st)) ∙ array_size_lem room) ∙ rw q
 
-  pub child_removed : (p : List ℕ) (r : Removed) (slot : ℕ) → Room st n → WasRemoved slot (take (a + size - a) (drop a st)) p r
+  pub child_removed : (p : List ℕ) (r : Result (Unit {0}) NoSlot) (slot : ℕ) → Room st n → WasRemoved slot (take (a + size - a) (drop a st)) p r
       → take a st ++ (p ++ drop (a + size - a) (drop a st)) ≡ remove_child st n slot
   unfolding remove_child
   child_removed p r slot room w =
@@ -178,60 +171,22 @@ module _ (st : List ℕ) (n a : ℕ) (is : a ≡ array_at n) where
       let q : p ≡ two_slots s (item_of l) r (item_of k) (array_in st n) = w ∙ rw (array_is, e, f) in
       back p room (ap length w ∙ length_two s x r y (take (a + size - a) (drop a st)) ∙ array_size_lem room) ∙ rw q
 
-pub two_made : (a b c d : List ℕ) (s x r y : ℕ) (t u : Put) → b ≡ cleared a → WasSet s x b c t → WasSet r y c d u → d ≡ two_slots s x r y a
+pub two_made : (a b c d : List ℕ) (s x r y : ℕ) (t u : Result Put NoSlot) → b ≡ cleared a → WasSet s x b c t → WasSet r y c d u → d ≡ two_slots s x r y a
 two_made a b c d s x r y t u e v w = w.bytes ∙ rw (v.bytes, e)
 
--- an answer of the array as a link
-linked_got_lem : (cap : ℕ) (o : Option ℕ) → linked_got cap (got o) ≡ linked cap o
-linked_got_lem cap none = refl
-linked_got_lem cap (some x) = refl
-
-module _ (a : List ℕ) (cap slot : ℕ) (g : Got) (l : Linked) where
-  pub got_linked : (st : List ℕ) (n : ℕ) → a ≡ array_in st n → g ≡ got (lookup slot (entries a)) → l ≡ linked_got cap g → l ≡ linked_in cap slot (children_in st n)
-  got_linked st n p q r = r ∙ rw (q, p) (linked_got_lem cap (lookup slot (entries (array_in st n))))
-
-  pub got_place : (st : List ℕ) (n i : ℕ) → a ≡ array_in st n → g ≡ got (nth i (entries a)) → l ≡ linked_got cap g → l ≡ linked cap (nth i (children_in st n))
-  got_place st n i p q r = r ∙ rw (q, p) (linked_got_lem cap (nth i (entries (array_in st n))))
-
-  got_near : (st : List ℕ) (n : ℕ) → slot ≤ 16 → a ≡ array_in st n → g ≡ got_or_head slot (entries a) → l ≡ linked_got cap g → l ≡ near_in cap slot (children_in st n)
-  got_near st n h p q r = r ∙ rw (q, p, le-leb slot 16 h) (linked_got_lem cap (or_else (lookup slot (entries (array_in st n))) (head (entries (array_in st n)))))
-
-  pub got_head : (st : List ℕ) (n : ℕ) → a ≡ array_in st n → g ≡ got (head (entries a)) → l ≡ linked_got cap g → l ≡ head_link cap (children_in st n)
-  got_head st n p q r = r ∙ rw (q, p) (linked_got_lem cap (head (entries (array_in st n))))
-
--- what a slot leads to, by the array's answer
-module _ (a : List ℕ) (cap slot : ℕ) (g : Got) (x : Next) (st : List ℕ) (n : ℕ) (p : a ≡ array_in st n) (r : x ≡ next_of (linked_got cap g)) where
-  pub slot_next : g ≡ got (lookup slot (entries a)) → x ≡ next_of (linked_in cap slot (children_in st n))
-  slot_next q = r ∙ ap next_of (got_linked a cap slot g (linked_got cap g) st n p q refl)
-
-  pub near_next : slot ≤ 16 → g ≡ got_or_head slot (entries a) → x ≡ next_of (near_in cap slot (children_in st n))
-  near_next h q = r ∙ ap next_of (got_near a cap slot g (linked_got cap g) st n h p q refl)
-
 -- the place of a slot of a record
-module _ (a : List ℕ) (slot : ℕ) (r : Place) (st : List ℕ) (n : ℕ) (p : a ≡ array_in st n) (q : r ≡ placed slot (entries a)) (h : slot ≤ 16) where
-  its_place : r ≡ Place.At (below slot (children_in st n))
+module _ (a : List ℕ) (slot : ℕ) (r : CodeOption ℕ) (st : List ℕ) (n : ℕ) (p : a ≡ array_in st n) (q : r ≡ placed slot (entries a)) (h : slot ≤ 16) where
+  its_place : r ≡ Some (below slot (children_in st n))
   its_place = q ∙ rw (p, le-leb slot 16 h)
 
-  pub place_is : (i : ℕ) → r ≡ Place.At i → i ≡ below slot (children_in st n)
-  place_is i e = go (Place.At i) (sym e ∙ its_place)
-    where
-      -- the number of a place
-      of : Place → ℕ
-      of (Place.At j) = j
-      of Place.Absent = 0
+  pub has_place : IsSome r
+  has_place = rw its_place
 
-      go : (z : Place) → z ≡ Place.At (below slot (children_in st n)) → of z ≡ below slot (children_in st n)
-      go z w = ap of w
+  pub place_is : (i : ℕ) → r ≡ Some i → i ≡ below slot (children_in st n)
+  place_is i e = let w : Some i ≡ Some (below slot (children_in st n)) = sym e ∙ its_place in cc w
 
-  pub place_small : (i : ℕ) → r ≡ Place.At i → i ≤ 17
+  pub place_small : (i : ℕ) → r ≡ Some i → i ≤ 17
   place_small i e = omega (arith, place_is i e, below_bound slot (array_in st n))
-
-  pub place_never : r ≡ Place.Absent → 0 ≡ below slot (children_in st n)
-  place_never e = absurd (let w : Place.Absent ≡ Place.At (below slot (children_in st n)) = sym e ∙ its_place in let z : ◌≡◌ {A = ℕ} 0 1 = cc in omega arith)
-
-pub got_other : (a : List ℕ) (cap slot : ℕ) (g : Got) (l : Linked) (st : List ℕ) (n : ℕ) → a ≡ array_in st n → g ≡ got (head (erase slot (entries a))) → l ≡ linked_got cap g
-    → l ≡ head_link cap (erase slot (children_in st n))
-got_other a cap slot g l st n p q r = r ∙ rw (q, p) (linked_got_lem cap (head (erase slot (entries (array_in st n)))))
 
 pub count_is : (a st : List ℕ) (n r : ℕ) → a ≡ array_in st n → r ≡ length (entries a) → r ≡ length (children_in st n)
 count_is a st n r p q = q ∙ rw p

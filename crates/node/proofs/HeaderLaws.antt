@@ -17,7 +17,8 @@ use Rattle.node.specs.Header.{magic, mark_in, head_in, right, head_of, head_byte
 use Rattle.node.specs.Leaf.{leaf_in}
 use Rattle.node.specs.Branch.{array_in}
 use Rattle.node.specs.declared.header.Header.{Header}
-use Rattle.node.specs.declared.header.Head.TheVariants.{Good, Bad}
+use Rattle.std.specs.Prelude.{Ok, Err}
+use Rattle.node.specs.NotAStore.{not_a_store}
 use Rattle.node.proofs.Frames.{leaf_kept, array_kept}
 
 -- numbers that fit their bytes
@@ -118,7 +119,7 @@ pub and_right : (s t : Bool) → (s && t) ≡ true → t ≡ true
 and_right true t e = e
 and_right false t e = absurd (true≢false (sym e))
 
-pub right_good : (st : List ℕ) (h : Header) → Right st h → head_of st ≡ Good h
+pub right_good : (st : List ℕ) (h : Header) → Right st h → head_of st ≡ Ok h
 unfolding head_of
 right_good st h r =
     rw (
@@ -130,14 +131,14 @@ right_good st h r =
       le-leb h.branches h.capacity r.branches,
     )
 
-pub good_right : (st : List ℕ) (h : Header) → head_of st ≡ Good h → Right st h
+pub good_right : (st : List ℕ) (h : Header) → head_of st ≡ Ok h → Right st h
 unfolding head_of
 good_right st h e = go (right st) refl e
   where
     numbers : Bool
     numbers = eqb (head_in st).capacity (capacity_of (length st)) && (leb (head_in st).leaves (head_in st).capacity && leb (head_in st).branches (head_in st).capacity)
 
-    go : (b : Bool) → right st ≡ b → cond b (Good (head_in st)) Bad ≡ Good h → Right st h
+    go : (b : Bool) → right st ≡ b → cond b (Ok (head_in st)) (Err not_a_store) ≡ Ok h → Right st h
     go false q e = absurd (let z : ◌≡◌ {A = ℕ} 0 1 = cc in omega arith)
     go true q e =
         let i : h ≡ head_in st = cc in

@@ -1,19 +1,16 @@
 -- Branch records: what the bytes of block n say of branch n, and the store with other links there.
 -- Assumes nothing.
-use Rattle.std.specs.Prelude.{ℕ, List}
+use Rattle.std.specs.Prelude.{ℕ, List, Option as CodeOption, Some, None, Result, Ok, Err}
 use Rattle.std.proofs.Math.Option.{Option, none, some}
 use Rattle.fields.specs.Part.{part, splice}
 use Rattle.fields.specs.Number.{little, little_bytes}
 use Rattle.bitmap.specs.Entries.{Entry, lookup, head}
 use Rattle.sparse_array.specs.Array.{size, entries, with_slot, without_slot, cleared}
 use Rattle.sparse_array.specs.Answers.{or_else}
-use Rattle.sparse_array.specs.declared.Got.{Got}
-use Rattle.sparse_array.specs.declared.Got.TheVariants.{Item, Absent as Nothing}
 use Rattle.node.specs.Layout.{array_at}
-use Rattle.node.specs.Child.{link_of, item_of}
+use Rattle.node.specs.Child.{Linked, link_of, item_of}
+use Rattle.node.specs.declared.NotAStore.{NotAStore}
 use Rattle.node.specs.declared.child.Link.{Link}
-use Rattle.node.specs.declared.child.Linked.{Linked}
-use Rattle.node.specs.declared.child.Linked.TheVariants.{Absent}
 
 -- the record's sparse array, and its (slot, item) list
 unfoldable pub array_in : List ℕ → ℕ → List ℕ
@@ -27,13 +24,17 @@ abbrev pub after_in : List ℕ → ℕ → ℕ
 after_in st n = little 2 (array_in st n) 4
 
 -- the link that an item stands for, if there is an item
-abbrev pub linked : ℕ → Option ℕ → Linked
-linked capacity none = Absent
-linked capacity (some item) = link_of capacity item
+abbrev pub some_link : Result Link NotAStore → Linked
+some_link (Ok l) = Ok (Some l)
+some_link (Err e) = Err e
 
-abbrev pub linked_got : ℕ → Got → Linked
-linked_got capacity (Item x) = link_of capacity x
-linked_got capacity Nothing = Absent
+abbrev pub linked : ℕ → Option ℕ → Linked
+linked capacity none = Ok None
+linked capacity (some item) = some_link (link_of capacity item)
+
+abbrev pub linked_got : ℕ → CodeOption ℕ → Linked
+linked_got capacity (Some x) = some_link (link_of capacity x)
+linked_got capacity None = Ok None
 
 -- the link of a slot; that of the lowest slot; that of a slot or, where it is missing, of the lowest
 abbrev pub linked_in : ℕ → ℕ → List Entry → Linked

@@ -1,13 +1,13 @@
 -- The header: a mark with the layout's version in the first 4 bytes, then seven numbers; when it is right, and the store with other numbers in it.
 -- The bytes after the last number are not read or written.
 -- Assumes nothing.
-use Rattle.std.specs.Prelude.{ℕ, Bool, cond, ◌&&◌, List, ◌++◌, length, leb, eqb}
+use Rattle.std.specs.Prelude.{ℕ, Bool, cond, ◌&&◌, List, ◌++◌, length, leb, eqb, Result, Ok, Err}
 use Rattle.model.specs.Numbers.{least_size, capacity_of}
 use Rattle.fields.specs.Part.{splice}
 use Rattle.fields.specs.Number.{little, little_bytes}
 use Rattle.node.specs.declared.header.Header.{Header}
-use Rattle.node.specs.declared.header.Head.{Head}
-use Rattle.node.specs.declared.header.Head.TheVariants.{Good, Bad}
+use Rattle.node.specs.declared.NotAStore.{NotAStore}
+use Rattle.node.specs.NotAStore.{not_a_store}
 
 abbrev pub magic : ℕ
 magic = 0x31505150
@@ -30,8 +30,8 @@ right_numbers size h = eqb h.capacity (capacity_of size) && (leb h.leaves h.capa
 abbrev pub right : List ℕ → Bool
 right st = leb least_size (length st) && (eqb (mark_in st) magic && right_numbers (length st) (head_in st))
 
-unfoldable pub head_of : List ℕ → Head
-head_of st = cond (right st) (Good (head_in st)) Bad
+unfoldable pub head_of : List ℕ → Result Header NotAStore
+head_of st = cond (right st) (Ok (head_in st)) (Err not_a_store)
 
 -- ---- the store with other numbers, or with the mark
 

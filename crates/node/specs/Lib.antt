@@ -3,3 +3,4 @@ pub mod Child
 pub mod Header
 pub mod Leaf
 pub mod Branch
+pub mod NotAStore

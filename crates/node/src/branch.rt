@@ -1,15 +1,16 @@
 // Branch records: a sparse array of links. The position of a branch stands in the link that leads to it.
+// That the store has room for the record stands in each contract: docs/TRACE.md names these functions, and a type that holds both would ask more of their callers.
 ghost use Rattle.std.specs.Prelude.{◌≡◌, ◌≤◌, ◌<◌, length};
 ghost use Rattle.model.specs.Numbers.{most};
 ghost use Rattle.bitmap.specs.Entries.{nth, below, erase};
 ghost use Rattle.sparse_array.specs.Array.{size as array_size};
 ghost use Rattle.node.specs.Layout.{Room};
-ghost use Rattle.node.specs.Child.{number_in, next_of};
+ghost use Rattle.node.specs.Child.{number_in};
 ghost use Rattle.node.specs.Branch.{array_in, children_in, linked as linked_of, linked_got, linked_in, near_in, head_link, set_child, remove_child, two_slots, make_branch};
 
-use crate::child::{BranchNo, Link, Linked, Next, item_of, link_of, next_of};
+use crate::NotAStore;
+use crate::child::{BranchNo, Link, item_of, link_of};
 use crate::layout::{ARRAY, array_at};
-use sparse_array::{Got, Place};
 
 // The record's array, as a part of the store.
 pub fn array(store: &[u8], branch: BranchNo) -> &[u8]
@@ -22,17 +23,22 @@ pub fn array(store: &[u8], branch: BranchNo) -> &[u8]
 }
 
 // The link that an item stands for, if there is one.
-fn linked(got: Got, capacity: u16) -> Linked
-    ensures { result ≡ linked_got capacity got }
+fn linked(item: Option<u32>, capacity: u16) -> Result<Option<Link>, NotAStore>
+    ensures { result ≡ linked_got capacity item }
 {
-    match got {
-        Got::Item(item) => link_of(item, capacity),
-        Got::Absent => Linked::Absent,
+    match item {
+        Some(item) => Ok(Some(link_of(item, capacity)?)),
+        None => Ok(None),
     }
 }
 
 // The link of a slot.
-pub fn get_child(store: &[u8], branch: BranchNo, slot: u8, capacity: u16) -> Linked
+pub fn get_child(
+    store: &[u8],
+    branch: BranchNo,
+    slot: u8,
+    capacity: u16,
+) -> Result<Option<Link>, NotAStore>
     requires { Room store.now branch.0 }
     ensures { result ≡ linked_in capacity slot (children_in store.now branch.0) }
 {
@@ -40,7 +46,12 @@ pub fn get_child(store: &[u8], branch: BranchNo, slot: u8, capacity: u16) -> Lin
 }
 
 // The link at a place: from place 0 on these are the links of all children, in the order of their slots.
-pub fn child_at(store: &[u8], branch: BranchNo, place: usize, capacity: u16) -> Linked
+pub fn child_at(
+    store: &[u8],
+    branch: BranchNo,
+    place: usize,
+    capacity: u16,
+) -> Result<Option<Link>, NotAStore>
     requires { Room store.now branch.0 }
     ensures { result ≡ linked_of capacity (nth place (children_in store.now branch.0)) }
 {
@@ -52,43 +63,27 @@ pub fn child_place(store: &[u8], branch: BranchNo, slot: u8) -> usize
     requires { (Room store.now branch.0) × (slot ≤ 16) }
     ensures { (result ≡ below slot (children_in store.now branch.0)) × (result ≤ 17) }
 {
-    match sparse_array::actual_index(array(store, branch), slot) {
-        Place::At(place) => place,
-        Place::Absent => 0,
-    }
+    sparse_array::actual_index(array(store, branch), slot).unwrap()
 }
 
-// What an item leads to, if there is one.
-fn next_got(got: Got, capacity: u16) -> Next
-    ensures { result ≡ next_of (linked_got capacity got) }
-{
-    match got {
-        Got::Item(item) => next_of(item, capacity),
-        Got::Absent => Next::Absent,
-    }
-}
-
-// What a slot leads to.
-pub fn follow(store: &[u8], branch: BranchNo, slot: u8, capacity: u16) -> Next
-    requires { Room store.now branch.0 }
-    ensures { result ≡ next_of (linked_in capacity slot (children_in store.now branch.0)) }
-{
-    next_got(sparse_array::get(array(store, branch), slot), capacity)
-}
-
-// What a slot leads to, or the lowest present slot where that one is missing.
-pub fn follow_or_head(store: &[u8], branch: BranchNo, slot: u8, capacity: u16) -> Next
+// The link of a slot, or of the lowest present one where that one is missing.
+pub fn follow_or_head(
+    store: &[u8],
+    branch: BranchNo,
+    slot: u8,
+    capacity: u16,
+) -> Result<Option<Link>, NotAStore>
     requires { (Room store.now branch.0) × (slot ≤ 16) }
-    ensures { result ≡ next_of (near_in capacity slot (children_in store.now branch.0)) }
+    ensures { result ≡ near_in capacity slot (children_in store.now branch.0) }
 {
-    next_got(
+    linked(
         sparse_array::get_or_head(array(store, branch), slot),
         capacity,
     )
 }
 
 // The link of the lowest present slot.
-pub fn head_child(store: &[u8], branch: BranchNo, capacity: u16) -> Linked
+pub fn head_child(store: &[u8], branch: BranchNo, capacity: u16) -> Result<Option<Link>, NotAStore>
     requires { Room store.now branch.0 }
     ensures { result ≡ head_link capacity (children_in store.now branch.0) }
 {
@@ -96,7 +91,12 @@ pub fn head_child(store: &[u8], branch: BranchNo, capacity: u16) -> Linked
 }
 
 // The link of the lowest present slot but for one.
-pub fn other_child(store: &[u8], branch: BranchNo, slot: u8, capacity: u16) -> Linked
+pub fn other_child(
+    store: &[u8],
+    branch: BranchNo,
+    slot: u8,
+    capacity: u16,
+) -> Result<Option<Link>, NotAStore>
     requires { Room store.now branch.0 }
     ensures { result ≡ head_link capacity (erase slot (children_in store.now branch.0)) }
 {
@@ -114,7 +114,7 @@ pub fn child_count(store: &[u8], branch: BranchNo) -> usize
     sparse_array::len(array(store, branch))
 }
 
-// A link put at a slot.
+// A link put at a slot. A slot over 16 leaves the record as it is.
 pub fn set_child(store: &mut [u8], branch: BranchNo, slot: u8, link: Link)
     requires { (Room store.old branch.0) × (number_in link.child < most) }
     ensures { store.new ≡ set_child store.old branch.0 slot link }
@@ -122,27 +122,27 @@ pub fn set_child(store: &mut [u8], branch: BranchNo, slot: u8, link: Link)
     let item = item_of(link);
     let a = array_at(branch);
     let e = a + ARRAY;
-    sparse_array::set(&mut store[a..e], slot, item);
+    let _ = sparse_array::set(&mut store[a..e], slot, item);
 }
 
-// A slot taken out.
+// A slot taken out. A missing slot leaves the record as it is.
 pub fn remove_child(store: &mut [u8], branch: BranchNo, slot: u8)
     requires { Room store.old branch.0 }
     ensures { store.new ≡ remove_child store.old branch.0 slot }
 {
     let a = array_at(branch);
     let e = a + ARRAY;
-    sparse_array::remove(&mut store[a..e], slot);
+    let _ = sparse_array::remove(&mut store[a..e], slot);
 }
 
-// The array of two children and no other.
+// The array of two children and no other. A slot over 16 is left out.
 fn make_two(s: &mut [u8], low: u8, first: u32, high: u8, second: u32)
     requires { length s.old ≡ array_size }
     ensures { s.new ≡ two_slots low first high second s.old }
 {
     sparse_array::clear(s);
-    sparse_array::set(s, low, first);
-    sparse_array::set(s, high, second);
+    let _ = sparse_array::set(s, low, first);
+    let _ = sparse_array::set(s, high, second);
 }
 
 // A new branch, with two children.

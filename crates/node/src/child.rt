@@ -2,8 +2,9 @@
 // the other. A link is a child and, for a branch, the position at which that branch stands; in the store it is a number of 3 bytes.
 ghost use Rattle.std.specs.Prelude.{◌≡◌, ◌<◌};
 ghost use Rattle.model.specs.Numbers.{most};
-ghost use Rattle.node.specs.Child.{link_of, next_of, item_of, code_of, number_in};
+ghost use Rattle.node.specs.Child.{link_of, item_of, code_of, number_in};
 
+use crate::NotAStore;
 use crate::layout::MOST;
 
 #[derive(Clone, Copy)]
@@ -24,67 +25,30 @@ pub struct Link {
     pub position: u8,
 }
 
-// What a slot of a branch leads to.
-#[derive(Clone, Copy)]
-pub enum Linked {
-    To(Link),
-    // nothing is in the slot
-    Absent,
-    // no record of the store has that number
-    Wrong,
-}
-
-// A link taken apart, for a loop that goes on from it: one jump tells what it leads to.
-#[derive(Clone, Copy)]
-pub enum Next {
-    Leaf(LeafNo, u8),
-    Branch(BranchNo, u8),
-    // nothing is in the slot
-    Absent,
-    // no record of the store has that number
-    Wrong,
-}
-
-// What an item of a branch leads to: its two low bytes are the child's code, below MOST a leaf and from there on a branch, and the third is the
+// The link that an item of a branch stands for: its two low bytes are the child's code, below MOST a leaf and from there on a branch, and the third is the
 // position. A number is tested against the capacity before anything uses it.
-pub fn next_of(item: u32, capacity: u16) -> Next
-    ensures { result ≡ next_of (link_of capacity item) }
+pub fn link_of(item: u32, capacity: u16) -> Result<Link, NotAStore>
+    ensures { result ≡ link_of capacity item }
 {
     let code = item % 65536;
     let position = (item / 65536 % 256) as u8;
     if code < capacity as u32 {
-        return Next::Leaf(LeafNo(code as u16), position);
+        return Ok(Link {
+            child: Child::Leaf(LeafNo(code as u16)),
+            position,
+        });
     }
     if code < MOST as u32 {
-        return Next::Wrong;
+        return Err(NotAStore);
     }
     let number = code - MOST as u32;
     if number < capacity as u32 {
-        return Next::Branch(BranchNo(number as u16), position);
+        return Ok(Link {
+            child: Child::Branch(BranchNo(number as u16)),
+            position,
+        });
     }
-    Next::Wrong
-}
-
-// The link that an item of a branch stands for.
-pub fn link_of(item: u32, capacity: u16) -> Linked
-    ensures { result ≡ link_of capacity item }
-{
-    match next_of(item, capacity) {
-        Next::Leaf(n, position) => {
-            Linked::To(Link {
-                child: Child::Leaf(n),
-                position,
-            })
-        }
-        Next::Branch(n, position) => {
-            Linked::To(Link {
-                child: Child::Branch(n),
-                position,
-            })
-        }
-        Next::Absent => Linked::Absent,
-        Next::Wrong => Linked::Wrong,
-    }
+    Err(NotAStore)
 }
 
 fn code_of(child: Child) -> u32

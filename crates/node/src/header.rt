@@ -4,8 +4,9 @@ ghost use Rattle.std.specs.Prelude.{◌≡◌, ◌≤◌, length};
 ghost use Rattle.model.specs.Numbers.{header_size};
 ghost use Rattle.node.specs.Header.{head_in, head_of, header, set_head, set_mark};
 
+use crate::NotAStore;
 use crate::layout::{BLOCK, HEAD, capacity_of};
-use fields::little::{read2, read3, read4, write2, write3, write4};
+use fields::little::{read2, read3, read4, write, write2};
 
 // The mark and the layout's version.
 const MARK: u32 = 0x31505150;
@@ -22,12 +23,6 @@ pub struct Header {
     // the first free leaf and the first free branch
     pub leaf: u16,
     pub branch: u16,
-}
-
-#[derive(Clone, Copy)]
-pub enum Head {
-    Good(Header),
-    Bad,
 }
 
 // The numbers, right or wrong.
@@ -55,28 +50,28 @@ fn head_in(store: &[u8]) -> Header
 
 // The header's test, on any bytes: the slice has room for a block, the mark is there, the capacity is the slice's, and no more records are in use
 // than there are.
-pub fn read_head(store: &[u8]) -> Head
+pub fn read_head(store: &[u8]) -> Result<Header, NotAStore>
     ensures { result ≡ head_of store.now }
 {
     let n = store.len();
     if n < HEAD + BLOCK {
-        return Head::Bad;
+        return Err(NotAStore);
     }
     if read4(store, 0) != MARK {
-        return Head::Bad;
+        return Err(NotAStore);
     }
     let h = head_in(store);
     let capacity = h.capacity;
     if capacity != capacity_of(n) {
-        return Head::Bad;
+        return Err(NotAStore);
     }
     if capacity < h.leaves {
-        return Head::Bad;
+        return Err(NotAStore);
     }
     if capacity < h.branches {
-        return Head::Bad;
+        return Err(NotAStore);
     }
-    Head::Good(h)
+    Ok(h)
 }
 
 // The numbers apart, so that each one's bound is known from its type.
@@ -97,7 +92,7 @@ fn put_numbers(
     write2(store, 6, limit);
     write2(store, 8, leaves);
     write2(store, 10, branches);
-    write3(store, 12, root);
+    write::<3>(store, 12, root);
     write2(store, 15, leaf);
     write2(store, 17, branch);
 }
@@ -115,5 +110,5 @@ pub fn put_mark(store: &mut [u8])
     requires { header_size ≤ length store.old }
     ensures { store.new ≡ set_mark store.old }
 {
-    write4(store, 0, MARK);
+    write::<4>(store, 0, MARK);
 }

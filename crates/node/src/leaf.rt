@@ -1,4 +1,5 @@
 // Leaf records: a length, a key and a value.
+// That the store has room for the record stands in each contract: docs/TRACE.md names these functions, and a type that holds both would ask more of their callers.
 ghost use Rattle.std.specs.Prelude.{◌≡◌, ◌≤◌, leb, length};
 ghost use Rattle.model.specs.Key.{key_limit};
 ghost use Rattle.node.specs.Layout.{Room};
@@ -6,8 +7,8 @@ ghost use Rattle.node.specs.Leaf.{leaf_in, key_size, set_leaf, set_value};
 
 use crate::child::LeafNo;
 use crate::layout::{KEY_LIMIT, key_at, size_at, value_at};
-use fields::little::{read4, write4};
-use fields::{wide, write1};
+use fields::little::{read4, write};
+use fields::write1;
 
 // How many bytes of a leaf record are its key: no more than the limit, whatever the length byte says.
 fn key_size(store: &[u8], leaf: LeafNo) -> usize
@@ -15,8 +16,7 @@ fn key_size(store: &[u8], leaf: LeafNo) -> usize
     ensures { (result ≡ key_size (leaf_in store.now leaf.0).size) × (result ≤ key_limit) }
 {
     let a = size_at(leaf);
-    let size = wide(store[a]) as usize;
-    if size <= KEY_LIMIT { size } else { KEY_LIMIT }
+    (store[a] as usize).min(KEY_LIMIT)
 }
 
 // Whether the length byte is that of a key.
@@ -25,8 +25,7 @@ pub fn fits(store: &[u8], leaf: LeafNo) -> bool
     ensures { result ≡ leb (leaf_in store.now leaf.0).size key_limit }
 {
     let a = size_at(leaf);
-    let size = wide(store[a]) as usize;
-    size <= KEY_LIMIT
+    store[a] as usize <= KEY_LIMIT
 }
 
 pub fn key(store: &[u8], leaf: LeafNo) -> &[u8]
@@ -55,10 +54,10 @@ pub fn write_leaf(store: &mut [u8], leaf: LeafNo, key: &[u8], value: u32)
     let t = size_at(leaf);
     write1(store, t, size as u8);
     let v = value_at(leaf);
-    write4(store, v, value);
+    write::<4>(store, v, value);
     let a = key_at(leaf);
     let e = a + size;
-    fields::copy(&mut store[a..e], key);
+    store[a..e].copy_from_slice(key);
 }
 
 pub fn set_value(store: &mut [u8], leaf: LeafNo, value: u32)
@@ -66,5 +65,5 @@ pub fn set_value(store: &mut [u8], leaf: LeafNo, value: u32)
     ensures { store.new ≡ set_value store.old leaf.0 value }
 {
     let a = value_at(leaf);
-    write4(store, a, value);
+    write::<4>(store, a, value);
 }

@@ -7,3 +7,7 @@ pub mod child;
 pub mod header;
 pub mod layout;
 pub mod leaf;
+
+// What no store has was met: the header is wrong, a link names no record, or the records are no tree.
+#[derive(Clone, Copy, Debug, PartialEq, Eq)]
+pub struct NotAStore;

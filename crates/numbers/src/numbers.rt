@@ -1,16 +1,14 @@
-// Each call's answer as a number, as document 01's table numbers it, and what stands beside it.
-ghost use Rattle.std.specs.Prelude.{◌≡◌};
-ghost use Rattle.index_spec.specs.Replies.{create_reply, check_reply, empty_reply, limit_reply, insert_reply, get_reply, changed_reply, page_reply};
-ghost use Rattle.numbers.specs.Handed.{found_empty, mode_named};
+// Each call's answer as a number, as document 01's table numbers it, and what stands beside it: C has no Result, and bindings/c/ponybollard.h declares these.
+// The errors are of other crates, so that no `From` can be written for them here.
+ghost use Rattle.std.specs.Prelude.{ℕ, ◌≡◌};
+ghost use Rattle.index_spec.specs.Replies.{insert_reply, get_reply, page_reply};
+ghost use Rattle.numbers.specs.Handed.{answered, room_number, store_number, insert_number as insert_refusal, lookup_number, page_number, found_empty, mode_named};
 
-use audit::Checked;
-use index::changed::Changed;
-use index::get::Got;
-use index::insert::Inserted;
-use index::is_empty::Empty;
-use index::pages::{Mode, Paged};
-use index::set_limit::Limited;
-use records::create::Made;
+use index::create::NoRoom;
+use index::get::LookupError;
+use index::insert::{InsertError, Inserted};
+use index::pages::{Mode, Page, PageError};
+use node::NotAStore;
 
 const DONE: u32 = 0;
 
@@ -30,162 +28,112 @@ const COUNT: u32 = 15;
 
 const ROOM: u32 = 16;
 
-pub fn create_number(made: Made) -> u32
-    ensures { result ≡ (create_reply made).answer }
-{
-    match made {
-        Made::Done => DONE,
-        Made::Room => ROOM,
+// A refusal, which has a number in the table.
+pub trait Refusal {
+    ghost numbered: { Self → ℕ };
+
+    fn number(self) -> u32
+        ensures { result ≡ numbered self };
+}
+
+impl Refusal for NoRoom {
+    ghost numbered = { room_number };
+
+    fn number(self) -> u32 {
+        ROOM
     }
 }
 
-pub fn check_number(checked: Checked) -> u32
-    ensures { result ≡ (check_reply checked).answer }
-{
-    match checked {
-        Checked::Done => DONE,
-        Checked::Store => STORE,
+impl Refusal for NotAStore {
+    ghost numbered = { store_number };
+
+    fn number(self) -> u32 {
+        STORE
     }
 }
 
-pub fn empty_number(empty: Empty) -> u32
-    ensures { result ≡ (empty_reply empty).answer }
+impl Refusal for InsertError {
+    ghost numbered = { insert_refusal };
+
+    fn number(self) -> u32 {
+        match self {
+            InsertError::Store => STORE,
+            InsertError::Key => KEY,
+            InsertError::Height => HEIGHT,
+            InsertError::Full => FULL,
+        }
+    }
+}
+
+impl Refusal for LookupError {
+    ghost numbered = { lookup_number };
+
+    fn number(self) -> u32 {
+        match self {
+            LookupError::Store => STORE,
+            LookupError::Key => KEY,
+            LookupError::Absent => ABSENT,
+        }
+    }
+}
+
+impl Refusal for PageError {
+    ghost numbered = { page_number };
+
+    fn number(self) -> u32 {
+        match self {
+            PageError::Store => STORE,
+            PageError::Key => KEY,
+            PageError::Count => COUNT,
+        }
+    }
+}
+
+// The number of an answer that is done or a refusal.
+pub fn number<T: Copy, E: Refusal + Copy>(answer: Result<T, E>) -> u32
+    ensures { result ≡ answered E.numbered answer }
 {
-    match empty {
-        Empty::Yes => DONE,
-        Empty::No => DONE,
-        Empty::Store => STORE,
+    match answer {
+        Ok(_) => DONE,
+        Err(e) => e.number(),
+    }
+}
+
+pub fn insert_number(inserted: Result<Inserted, InsertError>) -> u32
+    ensures { result ≡ (insert_reply inserted).answer }
+{
+    match inserted {
+        Ok(Inserted::New) => DONE,
+        Ok(Inserted::Replaced) => REPLACED,
+        Err(e) => e.number(),
     }
 }
 
 // Whether the store was found empty: no with a refusal.
-pub fn found_empty(empty: Empty) -> bool
+pub fn found_empty(empty: Result<bool, NotAStore>) -> bool
     ensures { result ≡ found_empty empty }
 {
-    match empty {
-        Empty::Yes => true,
-        Empty::No => false,
-        Empty::Store => false,
-    }
-}
-
-pub fn limit_number(limited: Limited) -> u32
-    ensures { result ≡ (limit_reply limited).answer }
-{
-    match limited {
-        Limited::Done => DONE,
-        Limited::Store => STORE,
-    }
-}
-
-pub fn insert_number(inserted: Inserted) -> u32
-    ensures { result ≡ (insert_reply inserted).answer }
-{
-    match inserted {
-        Inserted::New => DONE,
-        Inserted::Replaced => REPLACED,
-        Inserted::Store => STORE,
-        Inserted::Key => KEY,
-        Inserted::Height => HEIGHT,
-        Inserted::Full => FULL,
-    }
-}
-
-pub fn get_number(got: Got) -> u32
-    ensures { result ≡ (get_reply got).answer }
-{
-    match got {
-        Got::Value(_v) => DONE,
-        Got::Store => STORE,
-        Got::Key => KEY,
-        Got::Absent => ABSENT,
-    }
+    empty.unwrap_or(false)
 }
 
 // The value found: 0 with a refusal.
-pub fn found_value(got: Got) -> u32
+pub fn found_value(got: Result<u32, LookupError>) -> u32
     ensures { result ≡ (get_reply got).value }
 {
-    match got {
-        Got::Value(v) => v,
-        Got::Store => 0,
-        Got::Key => 0,
-        Got::Absent => 0,
-    }
+    got.unwrap_or(0)
 }
 
-pub fn changed_number(changed: Changed) -> u32
-    ensures { result ≡ (changed_reply changed).answer }
+// The page given: no entries, no bytes and no end mark with a refusal.
+pub fn found_page(page: Result<Page, PageError>) -> Page
+    ensures entries { result.entries ≡ (page_reply page).count }
+    ensures bytes { result.bytes ≡ (page_reply page).value }
+    ensures end { result.end ≡ (page_reply page).end }
 {
-    match changed {
-        Changed::Done => DONE,
-        Changed::Store => STORE,
-        Changed::Key => KEY,
-        Changed::Absent => ABSENT,
-    }
-}
-
-pub fn page_number(paged: Paged) -> u32
-    ensures { result ≡ (page_reply paged).answer }
-{
-    match paged {
-        Paged::Done {
-            entries: _,
-            bytes: _,
-            end: _,
-        } => DONE,
-        Paged::Store => STORE,
-        Paged::Key => KEY,
-        Paged::Count => COUNT,
-    }
-}
-
-// The entries given: 0 with a refusal.
-pub fn page_entries(paged: Paged) -> usize
-    ensures { result ≡ (page_reply paged).count }
-{
-    match paged {
-        Paged::Done {
-            entries,
-            bytes: _,
-            end: _,
-        } => entries,
-        Paged::Store => 0,
-        Paged::Key => 0,
-        Paged::Count => 0,
-    }
-}
-
-// The bytes written: 0 with a refusal.
-pub fn page_bytes(paged: Paged) -> usize
-    ensures { result ≡ (page_reply paged).value }
-{
-    match paged {
-        Paged::Done {
-            entries: _,
-            bytes,
-            end: _,
-        } => bytes,
-        Paged::Store => 0,
-        Paged::Key => 0,
-        Paged::Count => 0,
-    }
-}
-
-// The end mark: no with a refusal.
-pub fn page_end(paged: Paged) -> bool
-    ensures { result ≡ (page_reply paged).end }
-{
-    match paged {
-        Paged::Done {
-            entries: _,
-            bytes: _,
-            end,
-        } => end,
-        Paged::Store => false,
-        Paged::Key => false,
-        Paged::Count => false,
-    }
+    page.unwrap_or(Page {
+        entries: 0,
+        bytes: 0,
+        end: false,
+    })
 }
 
 pub fn mode_named(inclusive: bool) -> Mode

@@ -8,12 +8,13 @@ ghost use Rattle.trie_spec.specs.Writes.{Did};
 ghost use Rattle.promises.specs.Promises.{FirstPage, NextPage};
 ghost use Rattle.index_spec.specs.Layout.{layout};
 ghost use Rattle.index_spec.specs.Replies.{mode_of, page_reply};
-ghost use Rattle.index_spec.specs.Pages.{is_inclusive, count_wrong, paged_of, next_in, first_call, next_call};
+ghost use Rattle.index_spec.specs.Pages.{is_inclusive, count_wrong, next_in, first_call, next_call};
 
-pub use index_spec::pages::{Mode, Paged};
-use iterator::page::{Listed, list};
+use index_spec::pages::{Mode, PageError};
+use iterator::page::{Page, list};
 use lookup::keys::{critical, nibble};
-use node::header::{Head, Header, read_head};
+use node::NotAStore;
+use node::header::{Header, read_head};
 use node::layout::KEY_LIMIT;
 use walk::entry::ENTRY_LIMIT;
 
@@ -23,16 +24,10 @@ const PAGE_LIMIT: u32 = 256;
 fn count_wrong(n: u32, room: usize) -> bool
     ensures { result ≡ count_wrong n room }
 {
-    if n == 0 {
-        return true;
-    }
-    if PAGE_LIMIT < n {
-        return true;
-    }
-    room < ENTRY_LIMIT * (n as usize)
+    n == 0 || PAGE_LIMIT < n || room < ENTRY_LIMIT * (n as usize)
 }
 
-// Whether one key lies below another.
+// Whether one key lies below another: by their critical position, of which the laws of the tree's order speak, and not by the library's order of slices.
 fn is_below(a: &[u8], b: &[u8]) -> bool
     requires { length a.now ≤ key_limit }
     ensures { result ≡ follows (after_key a.now) b.now }
@@ -44,27 +39,7 @@ fn is_below(a: &[u8], b: &[u8]) -> bool
 fn includes(mode: Mode) -> bool
     ensures { result ≡ is_inclusive mode }
 {
-    match mode {
-        Mode::Plain => false,
-        Mode::Inclusive => true,
-    }
-}
-
-fn named(listed: Listed) -> Paged
-    ensures { result ≡ paged_of listed }
-{
-    match listed {
-        Listed::Page {
-            entries,
-            bytes,
-            end,
-        } => Paged::Done {
-            entries,
-            bytes,
-            end,
-        },
-        Listed::Wrong => Paged::Store,
-    }
+    mode == Mode::Inclusive
 }
 
 // The page after a key. A plain listing begins past the prefix, too: past the higher of the two.
@@ -76,7 +51,7 @@ fn list_after(
     after: &[u8],
     n: usize,
     out: &mut [u8],
-) -> Listed
+) -> Result<Page, NotAStore>
     requires { (start h.capacity ≤ length store.now) × (length prefix.now ≤ key_limit) × (length after.now ≤ key_limit) × (entry_limit * n ≤ length out.old) }
     ensures { Did (next_in store.now h prefix.now mode after.now n out.old) result out.new }
 {
@@ -89,20 +64,25 @@ fn list_after(
     list(store, h, prefix, after, false, n, out)
 }
 
-pub fn first_page(store: &[u8], prefix: &[u8], mode: Mode, n: u32, out: &mut [u8]) -> Paged
+pub fn first_page(
+    store: &[u8],
+    prefix: &[u8],
+    mode: Mode,
+    n: u32,
+    out: &mut [u8],
+) -> Result<Page, PageError>
     ensures promise { FirstPage layout prefix.now (mode_of mode) n store.now out.old out.new (page_reply result) }
     ensures is { Did (first_call prefix.now mode n store.now out.old) result out.new }
 {
-    let Head::Good(h) = read_head(store) else {
-        return Paged::Store;
-    };
+    let h = read_head(store)?;
     if prefix.len() > KEY_LIMIT {
-        return Paged::Key;
+        return Err(PageError::Key);
     }
     if count_wrong(n, out.len()) {
-        return Paged::Count;
+        return Err(PageError::Count);
     }
-    named(list(store, h, prefix, prefix, includes(mode), n as usize, out))
+    let page = list(store, h, prefix, prefix, includes(mode), n as usize, out)?;
+    Ok(page)
 }
 
 pub fn next_page(
@@ -112,21 +92,17 @@ pub fn next_page(
     after: &[u8],
     n: u32,
     out: &mut [u8],
-) -> Paged
+) -> Result<Page, PageError>
     ensures promise { NextPage layout prefix.now (mode_of mode) after.now n store.now out.old out.new (page_reply result) }
     ensures is { Did (next_call prefix.now mode after.now n store.now out.old) result out.new }
 {
-    let Head::Good(h) = read_head(store) else {
-        return Paged::Store;
-    };
-    if prefix.len() > KEY_LIMIT {
-        return Paged::Key;
-    }
-    if after.len() > KEY_LIMIT {
-        return Paged::Key;
+    let h = read_head(store)?;
+    if prefix.len() > KEY_LIMIT || after.len() > KEY_LIMIT {
+        return Err(PageError::Key);
     }
     if count_wrong(n, out.len()) {
-        return Paged::Count;
+        return Err(PageError::Count);
     }
-    named(list_after(store, h, prefix, mode, after, n as usize, out))
+    let page = list_after(store, h, prefix, mode, after, n as usize, out)?;
+    Ok(page)
 }

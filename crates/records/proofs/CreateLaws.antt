@@ -17,7 +17,7 @@ use Rattle.node.specs.Leaf.{Leaf, leaf_in}
 use Rattle.node.specs.Branch.{array_in}
 use Rattle.records.specs.Chain.{Kind, leaves, branches}
 use Rattle.records.specs.Create.{next_after, freed_below, new_head, created}
-use Rattle.node.specs.declared.header.Head.TheVariants.{Good}
+use Rattle.std.specs.Prelude.{Ok}
 use Rattle.node.proofs.RecordLaws.{leaf_freed, branch_freed}
 use Rattle.node.proofs.HeaderLaws.{Fits, right_good, head_back, length_head, mark_stays, leaf_stays, array_stays, past_stays, length_mark, mark_back, leaf_past_mark, array_past_mark, past_mark, blocks_fit, few}
 use Rattle.records.proofs.ChainLaws.{ChainIn, leaves_lawful, branches_lawful}
@@ -165,7 +165,7 @@ module _ (limit : ℕ) (st : List ℕ) (small : limit < 65536) (long : least_siz
   unfolding created freed
   marked = mark_stays (set_mark freed) (new_head (capacity_of (length st)) limit) ∙ mark_back freed (omega (arith, length_all))
 
-  pub create_right : head_of (created limit st) ≡ Good (new_head (capacity_of (length st)) limit)
+  pub create_right : head_of (created limit st) ≡ Ok (new_head (capacity_of (length st)) limit)
   create_right = right_good (created limit st) (new_head (capacity_of (length st)) limit) (record {
     is = sym create_head;
     long = omega (arith, create_length);

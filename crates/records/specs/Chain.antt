@@ -1,17 +1,15 @@
 -- The free records of each kind: how a free record looks, what taking the first one and giving one back do to the bytes and to the header's numbers.
 -- A `Kind` has what differs between leaves and branches, so that what holds of both is said once.
 -- Assumes nothing.
-use Rattle.std.specs.Prelude.{ℕ, ◌+◌, ◌-◌, ◌<◌, ◌≡◌, Bool, true, cond, ◌&&◌, List, ltb, eqb, length}
+use Rattle.std.specs.Prelude.{ℕ, ◌+◌, ◌-◌, ◌<◌, ◌≡◌, Bool, true, cond, ◌&&◌, List, ltb, eqb, length, Option as Maybe, Some, None}
 use Rattle.std.proofs.Math.Option.{Option, none, some}
 use Rattle.node.specs.Layout.{free_size}
 use Rattle.node.specs.Header.{header}
 use Rattle.node.specs.Leaf.{leaf_in, free_leaf}
 use Rattle.node.specs.Branch.{children_in, after_in, free_branch}
 use Rattle.node.specs.declared.header.Header.{Header}
-use Rattle.records.specs.declared.chain.TakenLeaf.{TakenLeaf}
-use Rattle.records.specs.declared.chain.TakenLeaf.TheVariants.{Record as LeafRecord, Nothing as NoLeaf}
-use Rattle.records.specs.declared.chain.TakenBranch.{TakenBranch}
-use Rattle.records.specs.declared.chain.TakenBranch.TheVariants.{Record as BranchRecord, Nothing as NoBranch}
+use Rattle.node.specs.declared.child.LeafNo.{LeafNo}
+use Rattle.node.specs.declared.child.BranchNo.{BranchNo}
 
 pub record Kind : Type 0 where
   -- record n is marked as free
@@ -60,24 +58,19 @@ taken K st h =
 abbrev pub gave : Kind → Header → ℕ → Header
 gave K h n = K.with h n (K.used h - 1)
 
--- ---- for each kind, in the code's types
+-- ---- in the code's types
 
-abbrev pub as_leaf : Option (ℕ × Header) → TakenLeaf
-as_leaf none = NoLeaf
-as_leaf (some r) = LeafRecord (record { 0 = r.0 }) r.1
+-- the records of a number
+abbrev pub leaf_at : ℕ → LeafNo
+leaf_at n = record { 0 = n }
 
-abbrev pub as_branch : Option (ℕ × Header) → TakenBranch
-as_branch none = NoBranch
-as_branch (some r) = BranchRecord (record { 0 = r.0 }) r.1
+abbrev pub branch_at : ℕ → BranchNo
+branch_at n = record { 0 = n }
 
-abbrev pub taken_leaf : List ℕ → Header → TakenLeaf
-taken_leaf st h = as_leaf (taken leaves st h)
+-- what is taken, as a record and a header
+abbrev pub as_record : {R : Type 0} → (ℕ → R) → Option (ℕ × Header) → Maybe (R × Header)
+as_record at none = None
+as_record at (some r) = Some (at r.0, r.1)
 
-abbrev pub taken_branch : List ℕ → Header → TakenBranch
-taken_branch st h = as_branch (taken branches st h)
-
-abbrev pub gave_leaf : Header → ℕ → Header
-gave_leaf h n = gave leaves h n
-
-abbrev pub gave_branch : Header → ℕ → Header
-gave_branch h n = gave branches h n
+abbrev pub taken_record : {R : Type 0} → (ℕ → R) → Kind → List ℕ → Header → Maybe (R × Header)
+taken_record at K st h = as_record at (taken K st h)

@@ -1,12 +1,13 @@
 // Free records. Those of each kind are a chain through the records themselves: the header has the first one, and each has the number of the next; 65,535
 // ends a chain. A free leaf has the length 255 and the next number in its value bytes, a free branch has no child and the next number in its first item.
 // Taking and giving are at the head.
-ghost use Rattle.std.specs.Prelude.{◌≡◌, ◌≤◌, ◌-◌, length};
+// That the store has room for the record stands in each contract: docs/TRACE.md names these functions, and a type that holds both would ask more of their callers.
+ghost use Rattle.std.specs.Prelude.{ℕ, ◌≡◌, ◌≤◌, length, refl};
 ghost use Rattle.fields.specs.Part.{splice};
 ghost use Rattle.fields.specs.Number.{little_bytes};
 ghost use Rattle.sparse_array.specs.Array.{size as array_size, cleared};
 ghost use Rattle.node.specs.Layout.{start, Room};
-ghost use Rattle.records.specs.Chain.{leaves, branches, taken_leaf, taken_branch, gave_leaf, gave_branch};
+ghost use Rattle.records.specs.Chain.{Kind, leaves as leaf_kind, branches as branch_kind, taken_record, gave, leaf_at, branch_at};
 
 use fields::little::{read2, write2};
 use fields::write1;
@@ -15,118 +16,91 @@ use node::child::{BranchNo, LeafNo};
 use node::header::Header;
 use node::layout::{ARRAY, FREE, array_at, size_at, value_at};
 
-// The record taken, with the header after it.
-#[derive(Clone, Copy)]
-pub enum TakenLeaf {
-    Record(LeafNo, Header),
-    // none is free, or the chain is broken
-    Nothing,
+// A kind of record: what differs between leaves and branches in a chain of free ones. `numbers` says that the record of a number has that number. `From` for the
+// two ways between them is no plainer: the law would speak of the `from_gives` of both.
+pub trait Record: Copy {
+    ghost kind: { Kind };
+
+    ghost at: { ℕ → Self };
+
+    ghost number: { Self → ℕ };
+
+    // The record of a number.
+    fn numbered(n: u16) -> Self
+        ensures { result ≡ at n };
+
+    fn number(self) -> u16
+        ensures { result ≡ number self };
+
+    fn is_free(self, store: &[u8]) -> bool
+        requires { Room store.now (number self) }
+        ensures { result ≡ kind.is_free store.now (number self) };
+
+    // The number after a free record.
+    fn next(self, store: &[u8]) -> u16
+        requires { Room store.now (number self) }
+        ensures { result ≡ kind.next store.now (number self) };
+
+    // The record becomes free, with a number after it.
+    fn free(self, store: &mut [u8], next: u16)
+        requires { Room store.old (number self) }
+        ensures { store.new ≡ kind.freed store.old (number self) next };
+
+    // The header's first free record and its count of those in use, and the header with others.
+    fn head(h: Header) -> (u16, u16)
+        ensures { result ≡ (kind.first h, kind.used h) };
+
+    fn with_head(h: Header, first: u16, used: u16) -> Header
+        ensures { result ≡ kind.with h first used };
+
+    ghost numbers: { (n : ℕ) → number (at n) ≡ n };
 }
 
-#[derive(Clone, Copy)]
-pub enum TakenBranch {
-    Record(BranchNo, Header),
-    // none is free, or the chain is broken
-    Nothing,
-}
+impl Record for LeafNo {
+    ghost kind = { leaf_kind };
 
-pub fn is_free_leaf(store: &[u8], leaf: LeafNo) -> bool
-    requires { Room store.now leaf.0 }
-    ensures { result ≡ leaves.is_free store.now leaf.0 }
-{
-    let a = size_at(leaf);
-    store[a] == FREE
-}
+    ghost at = { leaf_at };
 
-pub fn is_free_branch(store: &[u8], branch: BranchNo) -> bool
-    requires { Room store.now branch.0 }
-    ensures { result ≡ branches.is_free store.now branch.0 }
-{
-    child_count(store, branch) == 0
-}
+    ghost number = { λ r. r.0 };
 
-pub fn next_leaf(store: &[u8], leaf: LeafNo) -> u16
-    requires { Room store.now leaf.0 }
-    ensures { result ≡ leaves.next store.now leaf.0 }
-{
-    let a = value_at(leaf);
-    read2(store, a)
-}
+    ghost numbers = { λ n. refl };
 
-pub fn next_branch(store: &[u8], branch: BranchNo) -> u16
-    requires { Room store.now branch.0 }
-    ensures { result ≡ branches.next store.now branch.0 }
-{
-    read2(array(store, branch), 4)
-}
-
-// The first free leaf. The store stays: the record is in use once the header that is returned is written.
-pub fn take_leaf(store: &[u8], h: Header) -> TakenLeaf
-    requires { start h.capacity ≤ length store.now }
-    ensures { result ≡ taken_leaf store.now h }
-{
-    let n = h.leaf;
-    let used = h.leaves;
-    if h.capacity <= n {
-        return TakenLeaf::Nothing;
+    fn numbered(n: u16) -> LeafNo {
+        LeafNo(n)
     }
-    if h.capacity <= used {
-        return TakenLeaf::Nothing;
-    }
-    if is_free_leaf(store, LeafNo(n)) {
-        let next = next_leaf(store, LeafNo(n));
-        let after = Header {
-            capacity: h.capacity,
-            limit: h.limit,
-            leaves: used + 1,
-            branches: h.branches,
-            root: h.root,
-            leaf: next,
-            branch: h.branch,
-        };
-        return TakenLeaf::Record(LeafNo(n), after);
-    }
-    TakenLeaf::Nothing
-}
 
-// The first free branch.
-pub fn take_branch(store: &[u8], h: Header) -> TakenBranch
-    requires { start h.capacity ≤ length store.now }
-    ensures { result ≡ taken_branch store.now h }
-{
-    let n = h.branch;
-    let used = h.branches;
-    if h.capacity <= n {
-        return TakenBranch::Nothing;
+    fn number(self) -> u16 {
+        self.0
     }
-    if h.capacity <= used {
-        return TakenBranch::Nothing;
-    }
-    if is_free_branch(store, BranchNo(n)) {
-        let next = next_branch(store, BranchNo(n));
-        let after = Header {
-            capacity: h.capacity,
-            limit: h.limit,
-            leaves: h.leaves,
-            branches: used + 1,
-            root: h.root,
-            leaf: h.leaf,
-            branch: next,
-        };
-        return TakenBranch::Record(BranchNo(n), after);
-    }
-    TakenBranch::Nothing
-}
 
-// A leaf record becomes free, with the number after it.
-pub fn free_leaf(store: &mut [u8], leaf: LeafNo, next: u16)
-    requires { Room store.old leaf.0 }
-    ensures { store.new ≡ leaves.freed store.old leaf.0 next }
-{
-    let t = size_at(leaf);
-    write1(store, t, FREE);
-    let v = value_at(leaf);
-    write2(store, v, next);
+    fn is_free(self, store: &[u8]) -> bool {
+        let a = size_at(self);
+        store[a] == FREE
+    }
+
+    fn next(self, store: &[u8]) -> u16 {
+        let a = value_at(self);
+        read2(store, a)
+    }
+
+    fn free(self, store: &mut [u8], next: u16) {
+        let t = size_at(self);
+        write1(store, t, FREE);
+        let v = value_at(self);
+        write2(store, v, next);
+    }
+
+    fn head(h: Header) -> (u16, u16) {
+        (h.leaf, h.leaves)
+    }
+
+    fn with_head(h: Header, first: u16, used: u16) -> Header {
+        Header {
+            leaf: first,
+            leaves: used,
+            ..h
+        }
+    }
 }
 
 // The array of a free branch record.
@@ -138,57 +112,75 @@ fn empty_array(s: &mut [u8], next: u16)
     write2(s, 4, next);
 }
 
-// A branch record becomes free.
-pub fn free_branch(store: &mut [u8], branch: BranchNo, next: u16)
-    requires { Room store.old branch.0 }
-    ensures { store.new ≡ branches.freed store.old branch.0 next }
-{
-    let a = array_at(branch);
-    let e = a + ARRAY;
-    empty_array(&mut store[a..e], next);
-}
+impl Record for BranchNo {
+    ghost kind = { branch_kind };
 
-// One less, down to 0.
-fn less(used: u16) -> u16
-    ensures { result ≡ used - 1 }
-{
-    if used == 0 { 0 } else { used - 1 }
-}
+    ghost at = { branch_at };
 
-// A leaf is given back, and comes first. The header that is returned is yet to be written.
-pub fn give_leaf(store: &mut [u8], h: Header, leaf: LeafNo) -> Header
-    requires { Room store.old leaf.0 }
-    ensures bytes { store.new ≡ leaves.freed store.old leaf.0 h.leaf }
-    ensures head { result ≡ gave_leaf h leaf.0 }
-{
-    let n = leaf.0;
-    free_leaf(store, leaf, h.leaf);
-    Header {
-        capacity: h.capacity,
-        limit: h.limit,
-        leaves: less(h.leaves),
-        branches: h.branches,
-        root: h.root,
-        leaf: n,
-        branch: h.branch,
+    ghost number = { λ r. r.0 };
+
+    ghost numbers = { λ n. refl };
+
+    fn numbered(n: u16) -> BranchNo {
+        BranchNo(n)
+    }
+
+    fn number(self) -> u16 {
+        self.0
+    }
+
+    fn is_free(self, store: &[u8]) -> bool {
+        child_count(store, self) == 0
+    }
+
+    fn next(self, store: &[u8]) -> u16 {
+        read2(array(store, self), 4)
+    }
+
+    fn free(self, store: &mut [u8], next: u16) {
+        let a = array_at(self);
+        let e = a + ARRAY;
+        empty_array(&mut store[a..e], next);
+    }
+
+    fn head(h: Header) -> (u16, u16) {
+        (h.branch, h.branches)
+    }
+
+    fn with_head(h: Header, first: u16, used: u16) -> Header {
+        Header {
+            branch: first,
+            branches: used,
+            ..h
+        }
     }
 }
 
-// A branch is given back.
-pub fn give_branch(store: &mut [u8], h: Header, branch: BranchNo) -> Header
-    requires { Room store.old branch.0 }
-    ensures bytes { store.new ≡ branches.freed store.old branch.0 h.branch }
-    ensures head { result ≡ gave_branch h branch.0 }
+// The first free record of a kind, with the header once it is taken; nothing where none is free or the chain is broken. The store stays: the record is in
+// use once that header is written.
+pub fn take<R: Record>(store: &[u8], h: Header) -> Option<(R, Header)>
+    requires { start h.capacity ≤ length store.now }
+    ensures { result ≡ taken_record R.at R.kind store.now h }
 {
-    let n = branch.0;
-    free_branch(store, branch, h.branch);
-    Header {
-        capacity: h.capacity,
-        limit: h.limit,
-        leaves: h.leaves,
-        branches: less(h.branches),
-        root: h.root,
-        leaf: h.leaf,
-        branch: n,
+    let (n, used) = R::head(h);
+    if h.capacity <= n || h.capacity <= used {
+        return None;
     }
+    let record = R::numbered(n);
+    if !record.is_free(store) {
+        return None;
+    }
+    let next = record.next(store);
+    Some((record, R::with_head(h, next, used + 1)))
+}
+
+// A record is given back, and comes first in its chain. The header that is returned is yet to be written.
+pub fn give<R: Record>(store: &mut [u8], h: Header, given: R) -> Header
+    requires { Room store.old (R.number given) }
+    ensures bytes { store.new ≡ R.kind.freed store.old (R.number given) (R.kind.first h) }
+    ensures head { result ≡ gave R.kind h (R.number given) }
+{
+    let (first, used) = R::head(h);
+    given.free(store, first);
+    R::with_head(h, given.number(), used.saturating_sub(1))
 }

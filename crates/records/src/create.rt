@@ -3,17 +3,14 @@ ghost use Rattle.std.specs.Prelude.{◌≡◌, ◌≤◌, ◌<◌, length};
 ghost use Rattle.node.specs.Layout.{start};
 ghost use Rattle.records.specs.Create.{next_after, freed_below, Created as WasCreated};
 
-use crate::chain::{free_branch, free_leaf};
+use crate::chain::Record;
 use node::child::{BranchNo, LeafNo};
 use node::header::{Header, put_head, put_mark};
 use node::layout::{BLOCK, HEAD, LAST, NO_ROOT, capacity_of};
 
-#[derive(Clone, Copy)]
-pub enum Made {
-    Done,
-    // the slice has no room for a block
-    Room,
-}
+// The slice has no room for a block.
+#[derive(Clone, Copy, Debug, PartialEq, Eq)]
+pub struct NoRoom;
 
 // The number after r in a chain of all records.
 fn next_after(r: u16, capacity: u16) -> u16
@@ -32,21 +29,19 @@ fn free_all(store: &mut [u8], capacity: u16)
     requires { start capacity ≤ length store.old }
     ensures { store.new ≡ freed_below capacity capacity store.old }
 {
-    let mut r: u16 = 0;
-    while r < capacity {
+    for r in 0..capacity {
         let next = next_after(r, capacity);
-        free_leaf(store, LeafNo(r), next);
-        free_branch(store, BranchNo(r), next);
-        r += 1;
+        LeafNo(r).free(store, next);
+        BranchNo(r).free(store, next);
     }
 }
 
-pub fn create(store: &mut [u8], limit: u16) -> Made
+pub fn create(store: &mut [u8], limit: u16) -> Result<(), NoRoom>
     ensures { WasCreated limit store.old store.new result }
 {
     let n = store.len();
     if n < HEAD + BLOCK {
-        return Made::Room;
+        return Err(NoRoom);
     }
     let capacity = capacity_of(n);
     free_all(store, capacity);
@@ -61,5 +56,5 @@ pub fn create(store: &mut [u8], limit: u16) -> Made
         branch: 0,
     };
     put_head(store, head);
-    Made::Done
+    Ok(())
 }

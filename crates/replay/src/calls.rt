@@ -1,217 +1,120 @@
-// Each record carried out, and its answer put behind the output. Each function answers how many bytes the output has then.
-use crate::State;
-use crate::input::{byte, four, key_at, limit_at, part, two, value_at};
-use crate::output::{append, put1, put4};
-use crate::pages::{first, next};
-use crate::space::{GUARD, fill, put_hash, write};
-use audit::Checked;
-use index::changed::Changed;
-use index::get::Got;
-use index::insert::Inserted;
-use index::is_empty::Empty;
-use index::set_limit::Limited;
-use records::create::Made;
+// The records of a script carried out on a store of raw bytes, which is the first `len` bytes of the space `all`, each answer put behind those before it. The
+// space, the room for a page and the output go side by side: of a struct that holds all three no two parts can be lent to one call.
+use crate::input::{Asked, Record, part};
+use crate::output::Output;
+use crate::space::{GUARD, hash, write};
+use index::get::LookupError;
+use index::pages::{Page, PageError, first_page, next_page};
+use node::NotAStore;
+use numbers::numbers::{found_empty, found_page, found_value, insert_number, number};
 
-fn made(r: Made) -> u8 {
-    match r {
-        Made::Done => 0,
-        Made::Room => 16,
+const BLANK: u8 = 0x5A;
+
+fn put_got(out: &mut Output, got: Result<u32, LookupError>) {
+    out.put_number(number(got));
+    out.put4(u64::from(found_value(got)));
+}
+
+fn put_empty(out: &mut Output, empty: Result<bool, NotAStore>) {
+    out.put_number(number(empty));
+    out.put1(u8::from(found_empty(empty)));
+}
+
+// What is told of a page, its bytes, and whether the rest of its output is untouched.
+fn put_page(out: &mut Output, page: &[u8], paged: Result<Page, PageError>) {
+    let given = found_page(paged);
+    out.put_number(number(paged));
+    out.put2(given.entries as u64);
+    out.put4(given.bytes as u64);
+    out.put1(u8::from(given.end));
+    if given.bytes <= page.len() {
+        out.append(&page[..given.bytes]);
+        let rest = &page[given.bytes..];
+        out.put1(u8::from(rest.iter().all(|b| *b == BLANK)));
     }
 }
 
-fn checked(r: Checked) -> u8 {
-    match r {
-        Checked::Done => 0,
-        Checked::Store => 10,
+// The record on a store.
+fn call(store: &mut [u8], page: &mut [u8], out: &mut Output, record: Record) {
+    match record {
+        Record::Write(at, bytes) => write(store, at, bytes),
+        Record::Dump(at, n) => out.append(part(store, at, n)),
+        Record::Create(limit) => out.put_number(number(index::create::create(store, limit))),
+        Record::Check => out.put_number(number(index::check::check(store))),
+        Record::IsEmpty => put_empty(out, index::is_empty::is_empty(store)),
+        Record::SetLimit(limit) => out.put_number(number(index::set_limit::set_limit(
+            store, limit,
+        ))),
+        Record::Insert(key, value) => out.put_number(insert_number(index::insert::insert(
+            store, key, value,
+        ))),
+        Record::Get(key) => put_got(out, index::get::get(store, key)),
+        Record::Overwrite(key, value) => out.put_number(number(index::overwrite::overwrite(
+            store, key, value,
+        ))),
+        Record::Remove(key) => out.put_number(number(index::remove::remove(store, key))),
+        Record::FirstPage(asked) => {
+            let paged = first_page(store, asked.prefix, asked.mode, asked.size, page);
+            put_page(out, page, paged);
+        }
+        Record::NextPage(asked, after) => {
+            let paged = next_page(store, asked.prefix, asked.mode, after, asked.size, page);
+            put_page(out, page, paged);
+        }
+        Record::New(_) | Record::Hash | Record::Skipped => {}
     }
 }
 
-fn limited(r: Limited) -> u8 {
-    match r {
-        Limited::Done => 0,
-        Limited::Store => 10,
+// The room that a record asks for its page's bytes.
+fn room(record: Record) -> usize {
+    match record {
+        Record::FirstPage(asked) | Record::NextPage(asked, _) => asked.room,
+        _ => 0,
     }
 }
 
-fn inserted(r: Inserted) -> u8 {
-    match r {
-        Inserted::New => 0,
-        Inserted::Replaced => 1,
-        Inserted::Store => 10,
-        Inserted::Key => 11,
-        Inserted::Height => 12,
-        Inserted::Full => 13,
+// The record on the store of so many bytes, which answers nothing where the space is shorter.
+fn on_store(all: &mut [u8], len: usize, page: &mut [u8], out: &mut Output, record: Record) {
+    if len <= all.len() {
+        let n = page.len().min(room(record));
+        page[..n].fill(BLANK);
+        call(&mut all[..len], &mut page[..n], out, record);
     }
 }
 
-fn changed(r: Changed) -> u8 {
-    match r {
-        Changed::Done => 0,
-        Changed::Store => 10,
-        Changed::Key => 11,
-        Changed::Absent => 14,
-    }
-}
-
-fn put_value(out: &mut [u8], n: usize, answer: u8, value: u64) -> usize {
-    let m = put1(out, n, answer);
-    put4(out, m, value)
-}
-
-fn put_got(out: &mut [u8], n: usize, r: Got) -> usize {
-    match r {
-        Got::Value(v) => put_value(out, n, 0, v as u64),
-        Got::Store => put_value(out, n, 10, 0),
-        Got::Key => put_value(out, n, 11, 0),
-        Got::Absent => put_value(out, n, 14, 0),
-    }
-}
-
-fn put_flag(out: &mut [u8], n: usize, answer: u8, flag: u8) -> usize {
-    let m = put1(out, n, answer);
-    put1(out, m, flag)
-}
-
-fn put_empty(out: &mut [u8], n: usize, r: Empty) -> usize {
-    match r {
-        Empty::Yes => put_flag(out, n, 0, 1),
-        Empty::No => put_flag(out, n, 0, 0),
-        Empty::Store => put_flag(out, n, 10, 0),
-    }
-}
-
-fn insert(s: &[u8], store: &mut [u8]) -> u8 {
-    let value = value_at(s, byte(s, 1) + 2);
-    inserted(index::insert::insert(store, key_at(s, 1), value))
-}
-
-fn overwrite(s: &[u8], store: &mut [u8]) -> u8 {
-    let value = value_at(s, byte(s, 1) + 2);
-    changed(index::overwrite::overwrite(store, key_at(s, 1), value))
-}
-
-// The records that may change a store, and have one byte of answer.
-fn change(letter: u8, s: &[u8], store: &mut [u8]) -> u8 {
-    match letter {
-        b'C' => made(index::create::create(store, limit_at(s, 1))),
-        b'L' => limited(index::set_limit::set_limit(store, limit_at(s, 1))),
-        b'I' => insert(s, store),
-        b'O' => overwrite(s, store),
-        b'R' => changed(index::remove::remove(store, key_at(s, 1))),
-        _ => 255,
-    }
-}
-
-// The records that only read a store.
-fn look(letter: u8, s: &[u8], store: &[u8], out: &mut [u8], n: usize) -> usize {
-    match letter {
-        b'K' => put1(out, n, checked(index::check::check(store))),
-        b'E' => put_empty(out, n, index::is_empty::is_empty(store)),
-        b'G' => put_got(out, n, index::get::get(store, key_at(s, 1))),
-        b'D' => append(out, n, part(store, four(s, 1), two(s, 5))),
-        _ => n,
-    }
-}
-
-// The records that list.
-fn list(letter: u8, s: &[u8], store: &[u8], page: &mut [u8], out: &mut [u8], n: usize) -> usize {
-    match letter {
-        b'F' => first(s, store, page, out, n),
-        b'N' => next(s, store, page, out, n),
-        _ => n,
-    }
-}
-
-// Which records a letter belongs to.
-fn changes(letter: u8) -> bool {
-    match letter {
-        b'C' | b'L' | b'I' | b'O' | b'R' => true,
-        _ => false,
-    }
-}
-
-fn lists(letter: u8) -> bool {
-    match letter {
-        b'F' | b'N' => true,
-        _ => false,
-    }
-}
-
-// A call on the store.
-fn call(
-    letter: u8,
-    s: &[u8],
-    store: &mut [u8],
-    page: &mut [u8],
-    out: &mut [u8],
-    n: usize,
-) -> usize {
-    if changes(letter) {
-        let r = change(letter, s, store);
-        return put1(out, n, r);
-    }
-    if lists(letter) {
-        return list(letter, s, store, page, out, n);
-    }
-    if letter == b'W' {
-        write(store, four(s, 1), part(s, 6, byte(s, 5)));
-        return n;
-    }
-    look(letter, s, store, out, n)
-}
-
-// The store of so many bytes and the guard behind it, as far as there is room.
+// The bytes of a store of so many bytes and of the guard behind it, as far as there is room.
 fn guarded(all: &[u8], len: usize) -> usize {
     if all.len() < GUARD {
         return 0;
     }
-    if all.len() - GUARD < len {
-        return all.len();
-    }
-    len + GUARD
+    all.len().min(len.saturating_add(GUARD))
 }
 
-// A new store of raw bytes.
-fn begin(s: &[u8], all: &mut [u8]) -> usize {
-    let len = four(s, 1);
-    let e = guarded(all, len);
-    if e <= all.len() {
-        fill(&mut all[0..e], 0xA5);
-    }
-    len
-}
-
-// The hash of the store and its guard.
-fn sum(all: &[u8], len: usize, out: &mut [u8], n: usize) -> usize {
-    let e = guarded(all, len);
-    put_hash(out, n, part(all, 0, e))
-}
-
-// The record at the start of s, on the store of so many bytes.
+// The record is carried out. The answer is the size of the store from then on.
 pub fn answer(
-    s: &[u8],
     all: &mut [u8],
-    page: &mut [u8],
-    out: &mut [u8],
     len: usize,
-    n: usize,
-) -> State {
-    let letter = byte(s, 0) as u8;
-    if letter == b'Z' {
-        return State {
-            len: begin(s, all),
-            filled: n,
-        };
+    page: &mut [u8],
+    out: &mut Output,
+    record: Record,
+) -> usize {
+    match record {
+        Record::New(size) => {
+            let e = guarded(all, size);
+            if e <= all.len() {
+                all[..e].fill(0xA5);
+            }
+            size
+        }
+        Record::Hash => {
+            let h = hash(part(all, 0, guarded(all, len)));
+            out.put4(h);
+            out.put4(h / 4294967296);
+            len
+        }
+        _ => {
+            on_store(all, len, page, out, record);
+            len
+        }
     }
-    if letter == b'H' {
-        return State {
-            len,
-            filled: sum(all, len, out, n),
-        };
-    }
-    if all.len() < len {
-        return State { len, filled: n };
-    }
-    let m = call(letter, s, &mut all[0..len], page, out, n);
-    State { len, filled: m }
 }

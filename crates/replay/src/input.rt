@@ -1,95 +1,111 @@
-// Fields of a record. A field that the bytes do not have is 0, and a part that they do not have is empty.
+// The records of a script. A field that the bytes do not have is 0, and a part that they do not have is empty.
 ghost use Rattle.std.specs.Prelude.{◌≤◌, ◌<◌};
 
-fn wide(x: u8) -> usize
-    ensures { result < 256 }
-{
-    x as usize
+use index::pages::Mode;
+use numbers::numbers::mode_named;
+
+// What a page is asked for: its mode, its size, the room for its bytes and its prefix.
+#[derive(Clone, Copy)]
+pub struct Asked<'a> {
+    pub mode: Mode,
+    pub size: u32,
+    pub room: usize,
+    pub prefix: &'a [u8],
 }
 
-pub fn byte(s: &[u8], at: usize) -> usize
-    ensures { result < 256 }
-{
-    if at < s.len() {
-        return wide(s[at]);
-    }
-    0
+#[derive(Clone, Copy)]
+pub enum Record<'a> {
+    New(usize),
+    Write(usize, &'a [u8]),
+    Hash,
+    Dump(usize, usize),
+    Create(u16),
+    Check,
+    IsEmpty,
+    SetLimit(u16),
+    Insert(&'a [u8], u32),
+    Get(&'a [u8]),
+    Overwrite(&'a [u8], u32),
+    Remove(&'a [u8]),
+    FirstPage(Asked<'a>),
+    NextPage(Asked<'a>, &'a [u8]),
+    Skipped,
 }
 
-pub fn two(s: &[u8], at: usize) -> usize
-    requires { at ≤ 1000 }
+fn byte(s: &[u8], at: usize) -> usize
+    ensures { result < 256 }
+{
+    s.get(at).map_or(0, |b| usize::from(*b))
+}
+
+fn two(s: &[u8], at: usize) -> usize
     ensures { result < 65536 }
 {
-    byte(s, at) + 256 * byte(s, at + 1)
+    byte(s, at) + 256 * byte(s, at.saturating_add(1))
 }
 
-pub fn four(s: &[u8], at: usize) -> usize
-    requires { at ≤ 1000 }
+fn four(s: &[u8], at: usize) -> usize
     ensures { result < 4294967296 }
 {
-    byte(s, at) + 256 * byte(s, at + 1) + 65536 * byte(s, at + 2) + 16777216 * byte(s, at + 3)
+    two(s, at) + 65536 * two(s, at.saturating_add(2))
 }
 
-pub fn limit_at(s: &[u8], at: usize) -> u16
-    requires { at ≤ 1000 }
-{
+fn limit_at(s: &[u8], at: usize) -> u16 {
     two(s, at) as u16
 }
 
-pub fn value_at(s: &[u8], at: usize) -> u32
-    requires { at ≤ 1000 }
-{
+fn value_at(s: &[u8], at: usize) -> u32 {
     four(s, at) as u32
 }
 
 // The n bytes from `at` on.
 pub fn part(s: &[u8], at: usize, n: usize) -> &[u8] {
-    if at <= s.len() {
-        if n <= s.len() - at {
-            let e = at + n;
-            return &s[at..e];
-        }
-    }
-    &s[..0]
+    s.get(at..).and_then(|t| t.get(..n)).unwrap_or(&[])
 }
 
 // A key with its length before it.
-pub fn key_at(s: &[u8], at: usize) -> &[u8]
-    requires { at ≤ 1000 }
-{
-    part(s, at + 1, byte(s, at))
+fn key_at(s: &[u8], at: usize) -> &[u8] {
+    part(s, at.saturating_add(1), byte(s, at))
 }
 
-// The bytes of a record.
-pub fn record_size(s: &[u8]) -> usize
-    ensures { (1 ≤ result) × (result ≤ 600) }
-{
-    let k = byte(s, 1);
-    match byte(s, 0) as u8 {
-        b'Z' => 5,
-        b'W' => 6 + byte(s, 5),
-        b'D' => 7,
-        b'C' => 3,
-        b'L' => 3,
-        b'I' => k + 6,
-        b'O' => k + 6,
-        b'G' => k + 2,
-        b'R' => k + 2,
-        b'F' => first_size(s),
-        b'N' => next_size(s),
-        _ => 1,
+fn page_asked(s: &[u8]) -> Asked<'_> {
+    Asked {
+        mode: mode_named(byte(s, 1) != 0),
+        size: value_at(s, 2),
+        room: four(s, 6),
+        prefix: key_at(s, 10),
     }
 }
 
-fn first_size(s: &[u8]) -> usize
-    ensures { (1 ≤ result) × (result ≤ 300) }
+// The record at the start of s, and how many bytes it has.
+pub fn read_record(s: &[u8]) -> (Record<'_>, usize)
+    ensures { (1 ≤ result.1) × (result.1 ≤ 600) }
 {
-    11 + byte(s, 10)
-}
-
-fn next_size(s: &[u8]) -> usize
-    ensures { (1 ≤ result) × (result ≤ 600) }
-{
-    let e = first_size(s);
-    e + 1 + byte(s, e)
+    let k = byte(s, 1);
+    match byte(s, 0) as u8 {
+        b'Z' => (Record::New(four(s, 1)), 5),
+        b'W' => (
+            Record::Write(four(s, 1), part(s, 6, byte(s, 5))),
+            6 + byte(s, 5),
+        ),
+        b'H' => (Record::Hash, 1),
+        b'D' => (Record::Dump(four(s, 1), two(s, 5)), 7),
+        b'C' => (Record::Create(limit_at(s, 1)), 3),
+        b'K' => (Record::Check, 1),
+        b'E' => (Record::IsEmpty, 1),
+        b'L' => (Record::SetLimit(limit_at(s, 1)), 3),
+        b'I' => (Record::Insert(key_at(s, 1), value_at(s, k + 2)), k + 6),
+        b'G' => (Record::Get(key_at(s, 1)), k + 2),
+        b'O' => (Record::Overwrite(key_at(s, 1), value_at(s, k + 2)), k + 6),
+        b'R' => (Record::Remove(key_at(s, 1)), k + 2),
+        b'F' => (Record::FirstPage(page_asked(s)), 11 + byte(s, 10)),
+        b'N' => {
+            let e = 11 + byte(s, 10);
+            (
+                Record::NextPage(page_asked(s), key_at(s, e)),
+                e + 1 + byte(s, e),
+            )
+        }
+        _ => (Record::Skipped, 1),
+    }
 }

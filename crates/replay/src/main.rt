@@ -22,43 +22,30 @@ ghost use Rattle.std.specs.Prelude.{◌≤◌, length};
 mod calls;
 mod input;
 mod output;
-mod pages;
 mod space;
 
 use calls::answer;
-use input::{part, record_size};
+use input::read_record;
+use output::Output;
 use std::io::{Read, Stdin, Stdout, Write};
-
-// What stands between two records: the store's size, and how many bytes of the output are filled.
-#[derive(Clone, Copy)]
-pub struct State {
-    pub len: usize,
-    pub filled: usize,
-}
 
 // Bytes go to standard output. What it does not take is lost.
 fn write_out(stdout: &mut Stdout, bytes: &[u8]) {
-    match stdout.write_all(bytes) {
-        Ok(()) => {}
-        Err(_) => {}
-    }
+    let _ = stdout.write_all(bytes);
 }
 
 // Some of the input: 0 bytes at its end, and where it cannot be read.
 fn read_some(stdin: &mut Stdin, buf: &mut [u8]) -> usize
     ensures { result ≤ length buf.new }
 {
-    match stdin.read(buf) {
-        Ok(n) => n,
-        Err(_) => 0,
-    }
+    stdin.read(buf).unwrap_or(0)
 }
 
-// Bytes of the input until the buffer is full or the input ends.
+// Bytes of the input until the buffer is full or the input ends. A read gives any number of them, so the place is no counted index.
 fn read_full(stdin: &mut Stdin, buf: &mut [u8]) -> usize
     ensures { result ≤ length buf.new }
 {
-    let mut done: usize = 0;
+    let mut done = 0;
     while done < buf.len() {
         let n = read_some(stdin, &mut buf[done..]);
         if n == 0 {
@@ -73,112 +60,61 @@ fn read_full(stdin: &mut Stdin, buf: &mut [u8]) -> usize
 const ENOUGH: usize = 131072;
 
 // The output is written once it has more bytes than that.
-fn flush(out: &[u8], filled: usize, stdout: &mut Stdout) -> usize {
-    if filled > ENOUGH {
-        write_out(stdout, part(out, 0, filled));
-        return 0;
+fn flush(out: &mut Output, stdout: &mut Stdout) {
+    if ENOUGH < out.filled() {
+        write_out(stdout, out.bytes());
+        out.clear();
     }
-    filled
 }
 
-// What is left of the output is written.
-fn finish(out: &[u8], filled: usize, stdout: &mut Stdout) {
-    write_out(stdout, part(out, 0, filled));
-}
-
-// The records of a block.
+// The records of a block. No index is counted: a record has as many bytes as it likes.
 fn play(
     block: &[u8],
     all: &mut [u8],
-    page: &mut [u8],
-    out: &mut [u8],
-    state: State,
-    stdout: &mut Stdout,
-) -> State {
-    let mut s = state;
-    let mut at: usize = 0;
-    while at < block.len() {
-        let used = record_size(&block[at..]);
-        let len = s.len;
-        let filled = flush(out, s.filled, stdout);
-        s = answer(&block[at..], all, page, out, len, filled);
-        if block.len() - at < used {
-            return s;
-        }
-        at += used;
-    }
-    s
-}
-
-// What stands between two blocks, and whether there was one.
-#[derive(Clone, Copy)]
-pub struct Turn {
-    pub len: usize,
-    pub filled: usize,
-    pub more: bool,
-}
-
-// The next block of the script.
-fn next_block(
-    all: &mut [u8],
-    page: &mut [u8],
-    out: &mut [u8],
     len: usize,
-    filled: usize,
-    stdin: &mut Stdin,
-    stdout: &mut Stdout,
-) -> Turn {
-    let mut block = [0u8; 65536];
-    let n = read_full(stdin, &mut block);
-    if n == 0 {
-        return Turn {
-            len,
-            filled,
-            more: false,
-        };
-    }
-    let s = play(&block[..n], all, page, out, State { len, filled }, stdout);
-    Turn {
-        len: s.len,
-        filled: s.filled,
-        more: true,
-    }
-}
-
-// The whole script. The count of the turns only shows that it ends.
-fn blocks(
-    all: &mut [u8],
     page: &mut [u8],
-    out: &mut [u8],
-    stdin: &mut Stdin,
+    out: &mut Output,
     stdout: &mut Stdout,
 ) -> usize {
-    let mut len: usize = 0;
-    let mut filled: usize = 0;
-    let mut turns = u64::MAX;
-    while turns > 0 {
-        let t = next_block(all, page, out, len, filled, stdin, stdout);
-        len = t.len;
-        filled = t.filled;
-        if t.more {
-            turns -= 1;
-        } else {
+    let mut len = len;
+    let mut rest = block;
+    while !rest.is_empty() {
+        let (record, used) = read_record(rest);
+        flush(out, stdout);
+        len = answer(all, len, page, out, record);
+        rest = rest.get(used..).unwrap_or(&[]);
+    }
+    len
+}
+
+// The whole script, block by block. The count of the blocks only shows that it ends.
+fn play_all(
+    all: &mut [u8],
+    page: &mut [u8],
+    out: &mut Output,
+    stdin: &mut Stdin,
+    stdout: &mut Stdout,
+) {
+    let mut block = [0u8; 65536];
+    let mut len = 0;
+    for _ in 0..u64::MAX {
+        let n = read_full(stdin, &mut block);
+        if n == 0 {
             break;
         }
+        len = play(&block[..n], all, len, page, out, stdout);
     }
-    filled
+    write_out(stdout, out.bytes());
 }
 
 fn run(all: &mut [u8], stdin: &mut Stdin, stdout: &mut Stdout) {
-    let mut output = [0u8; 262144];
-    let out: &mut [u8] = &mut output;
-    let mut entries = [0u8; 32768];
-    let page: &mut [u8] = &mut entries;
-    let filled = blocks(all, page, out, stdin, stdout);
-    finish(out, filled, stdout);
+    let mut page = [0u8; 32768];
+    let mut buffer = [0u8; 262144];
+    let mut out = Output::new(&mut buffer);
+    play_all(all, &mut page, &mut out, stdin, stdout);
 }
 
-// An array behind a reference is lent with no proof of its length.
+// An array behind a reference is lent with no proof of its length, which at this size is more than the checker follows.
 fn lend(space: &mut [u8; 2097920], stdin: &mut Stdin, stdout: &mut Stdout) {
     run(space, stdin, stdout);
 }

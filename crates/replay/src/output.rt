@@ -1,10 +1,10 @@
-// Bytes put behind those that an output has. Each function answers how many there are then; what has no room is left out.
-pub fn put1(out: &mut [u8], n: usize, b: u8) -> usize {
-    if n < out.len() {
-        out[n] = b;
-        return n + 1;
-    }
-    n
+// The answers so far: bytes at the start of a lent buffer. What has no room is left out.
+use crate::input::part;
+
+#[derive(Drop)]
+pub struct Output<'a> {
+    buffer: &'a mut [u8],
+    filled: usize,
 }
 
 // The low byte of a number.
@@ -12,24 +12,53 @@ fn low(x: u64) -> u8 {
     (x % 256) as u8
 }
 
-pub fn put2(out: &mut [u8], n: usize, x: u64) -> usize {
-    let m = put1(out, n, low(x));
-    put1(out, m, low(x / 256))
-}
+impl<'a> Output<'a> {
+    pub fn new(buffer: &'a mut [u8]) -> Self {
+        Output { buffer, filled: 0 }
+    }
 
-pub fn put4(out: &mut [u8], n: usize, x: u64) -> usize {
-    let m = put2(out, n, x);
-    put2(out, m, x / 65536)
-}
+    pub fn filled(&self) -> usize {
+        self.filled
+    }
 
-// The bytes of a slice.
-pub fn append(out: &mut [u8], n: usize, bytes: &[u8]) -> usize {
-    if n <= out.len() {
-        if bytes.len() <= out.len() - n {
-            let e = n + bytes.len();
-            fields::copy(&mut out[n..e], bytes);
-            return e;
+    pub fn bytes(&self) -> &[u8] {
+        part(self.buffer, 0, self.filled)
+    }
+
+    // The buffer begins anew.
+    pub fn clear(&mut self) {
+        self.filled = 0;
+    }
+
+    pub fn put1(&mut self, b: u8) {
+        if self.filled < self.buffer.len() {
+            self.buffer[self.filled] = b;
+            self.filled += 1;
         }
     }
-    n
+
+    // The number of an answer, which is one byte.
+    pub fn put_number(&mut self, answer: u32) {
+        self.put1(low(u64::from(answer)));
+    }
+
+    pub fn put2(&mut self, x: u64) {
+        self.put1(low(x));
+        self.put1(low(x / 256));
+    }
+
+    pub fn put4(&mut self, x: u64) {
+        self.put2(x);
+        self.put2(x / 65536);
+    }
+
+    // The bytes of a slice, all or none.
+    pub fn append(&mut self, bytes: &[u8]) {
+        let n = self.filled;
+        if n <= self.buffer.len() && bytes.len() <= self.buffer.len() - n {
+            let e = n + bytes.len();
+            self.buffer[n..e].copy_from_slice(bytes);
+            self.filled = e;
+        }
+    }
 }

@@ -3,6 +3,7 @@
 use mathlib.Core.Path.{◌≡◌, refl, sym, ap, ◌∙◌}
 use mathlib.Core.Bool.{Bool, true, false, cond}
 use mathlib.Core.Option.{Option, none, some}
+use Rattle.std.specs.Prelude.{Option as CodeOption, Result, Ok}
 use mathlib.Core.List.{List, []}
 use Prim.Native.Nat.{ℕ, suc, ◌≤◌, ◌<◌}
 use native.Mathlib.Decide.{dec_lt}
@@ -14,9 +15,8 @@ use Rattle.bitmap.specs.Bits.{bits_of, count, lowest, present}
 use Rattle.bitmap.specs.Entries.{pack, lookup, head, tail, insert, erase, below, Rising}
 use Rattle.sparse_array.specs.Array.{size, bitmap_of, item_at, entries, with_item, with_bitmap, opened, closed, turned, place_in, count_in, is_in, with_slot, without_slot, without_lowest, cleared}
 use Rattle.sparse_array.specs.Answers.{here, got, new_or, removed_answer, got_number, put_number, removed_number, WasSet, WasRemoved, WasPopped}
-use Rattle.sparse_array.specs.declared.Got.{Got}
+use Rattle.sparse_array.specs.declared.NoSlot.{NoSlot}
 use Rattle.sparse_array.specs.declared.Put.{Put}
-use Rattle.sparse_array.specs.declared.Removed.{Removed}
 use Rattle.bitmap.proofs.BitLaws.{length_bits, bits_number, number_lt}
 use Rattle.bitmap.proofs.EntryLaws.{lookup_pack, below_pack, length_pack, head_pack, pack_none, pack_ext, put_in, put_over, take_out, insert_pack, replace_pack, erase_pack, erase_lowest, erase_missing, is_put_in, is_put_over, is_take_out, count_set, count_clear, count_le, count_take, place_le, place_lt, none_set, pack_rising}
 use Rattle.sparse_array.proofs.ItemLaws.{length_item, length_bitmap, length_opened, length_closed, item_same, item_other, bitmap_kept, bitmap_new, item_kept, opened_below, opened_above, closed_below, closed_above}
@@ -231,19 +231,19 @@ length_remove_bytes slot a = go (is_in a slot)
 
 -- ---- "ABSENT and change nothing": by document 01's numbers, a refusal is from 10 up
 
-pub set_refused : (slot v : ℕ) (a b : List ℕ) (r : Put) → WasSet slot v a b r → 10 ≤ put_number r → b ≡ a
+pub set_refused : (slot v : ℕ) (a b : List ℕ) (r : Result Put NoSlot) → WasSet slot v a b r → 10 ≤ put_number r → b ≡ a
 unfolding with_slot
 set_refused slot v a b r w h = go (leb slot 16) refl
   where
     go : (s : Bool) → leb slot 16 ≡ s → b ≡ a
     go true e = absurd (taken (lookup slot (entries a)) (w.answer ∙ rw e))
       where
-        taken : (o : Option ℕ) → r ≡ new_or o → ⊥
+        taken : (o : Option ℕ) → r ≡ Ok (new_or o) → ⊥
         taken none q = absurd (omega (arith, rw q at h))
         taken (some x) q = absurd (omega (arith, rw q at h))
     go false e = w.bytes ∙ rw e
 
-pub remove_refused : (slot : ℕ) (a b : List ℕ) (r : Removed) → WasRemoved slot a b r → 10 ≤ removed_number r → b ≡ a
+pub remove_refused : (slot : ℕ) (a b : List ℕ) (r : Result (Unit {0}) NoSlot) → WasRemoved slot a b r → 10 ≤ removed_number r → b ≡ a
 unfolding without_slot
 remove_refused slot a b r w h = go (is_in a slot) refl
   where
@@ -251,7 +251,7 @@ remove_refused slot a b r w h = go (is_in a slot) refl
     go true e = absurd (omega (arith, rw (w.answer ∙ ap removed_answer (found a (bitmap_of a) slot refl (place_in a slot) (item_at a (place_in a slot)) e refl refl)) at h))
     go false e = w.bytes ∙ rw e
 
-pub pop_refused : (a b : List ℕ) (r : Got) → WasPopped a b r → 10 ≤ got_number r → b ≡ a
+pub pop_refused : (a b : List ℕ) (r : CodeOption ℕ) → WasPopped a b r → 10 ≤ got_number r → b ≡ a
 unfolding without_lowest without_slot
 pop_refused a b r w h = go (dec_lt 0 (count (present (bitmap_of a))))
   where

@@ -7,8 +7,8 @@ use Prim.Native.Nat.{ℕ, suc, ◌≤◌, ◌<◌}
 use native.Mathlib.Omega.{arith}
 use lib.ListN.{length}
 use lib.Dec.{eqb, ltb}
-use borrow.Author.Tests.{eq-eqb, ne_eqb, eqb-true}
-use Rattle.bitmap.specs.Entries.{Entry, lookup, insert, erase, Rising}
+use borrow.Author.Tests.{eq-eqb, ne_eqb, eqb-true, le-ltb, ltb-false}
+use Rattle.bitmap.specs.Entries.{Entry, lookup, head, nth, insert, erase, below, Rising}
 
 never : (x : ℕ) → ◌≡◌ {A = Option ℕ} (some x) none → ⊥
 never x e = let z : ◌≡◌ {A = ℕ} 0 1 = cc in omega arith
@@ -85,3 +85,38 @@ module _ (k : ℕ) where
           → suc (length (cond u es (e ∷ erase k es))) ≡ suc (length es)
       go true ih q = refl
       go false ih q = ap suc (ih q)
+
+-- the item at place 0 is that of the lowest slot
+pub nth_head : (es : List Entry) → nth 0 es ≡ head es
+unfolding nth
+nth_head [] = refl
+nth_head (e ∷ es) = refl
+
+-- what is lowest once a slot is taken out: the second item where the slot is the lowest one, and the first where it is not
+module _ (k : ℕ) where
+  below_low : (low high : ℕ) (es : List Entry) → Rising low high es → k ≤ low → below k es ≡ 0
+  unfolding below
+  below_low low high [] r h = refl
+  below_low low high (e ∷ es) r h =
+      let l : low ≤ e.0 = r.0 in
+      rw (le-ltb e.0 k (omega arith)) (below_low (suc e.0) high es r.2 (omega arith))
+
+  pub lowest_out : (low high x : ℕ) (es : List Entry) → Rising low high es → lookup k es ≡ some x → below k es ≡ 0 → nth 1 es ≡ head (erase k es)
+  unfolding lookup nth erase below
+  lowest_out low high x [] r h z = absurd (never x (sym h))
+  lowest_out low high x (e ∷ es) r h z = go (eqb k e.0) (ltb e.0 k) refl refl h z
+    where
+      go : (u t : Bool) → eqb k e.0 ≡ u → ltb e.0 k ≡ t → cond u (some e.1) (lookup k es) ≡ some x → cond t (suc (below k es)) (below k es) ≡ 0
+          → nth 0 es ≡ head (cond u es (e ∷ erase k es))
+      go true t q p f y = nth_head es
+      go false true q p f y = absurd (omega arith)
+      go false false q p f y = absurd (never x (sym f ∙ lookup_low k (suc e.0) high es r.2 (omega (arith, ltb-false e.0 k p))))
+
+  pub other_out : (low high : ℕ) (es : List Entry) → Rising low high es → (below k es ≡ 0 → ⊥) → head es ≡ head (erase k es)
+  unfolding erase below
+  other_out low high [] r z = refl
+  other_out low high (e ∷ es) r z = go (eqb k e.0) refl
+    where
+      go : (u : Bool) → eqb k e.0 ≡ u → some e.1 ≡ head (cond u es (e ∷ erase k es))
+      go true q = let f = eqb-true k e.0 q in absurd (z (rw (le-ltb e.0 k (omega arith)) (below_low (suc e.0) high es r.2 (omega arith))))
+      go false q = refl

@@ -2,7 +2,7 @@
 ghost use Rattle.std.specs.Prelude.{◌≡◌, ◌≤◌, ◌<◌, length};
 ghost use Rattle.sparse_array.specs.Array.{size, bitmap_of, item_at, with_bitmap, with_item, opened, closed};
 
-use fields::little::{read3, read4, write3, write4};
+use fields::little::{read3, read4, write};
 
 pub fn bitmap(s: &[u8]) -> u32
     requires { length s.now ≡ size }
@@ -15,7 +15,7 @@ pub fn put_bitmap(s: &mut [u8], bits: u32)
     requires { length s.old ≡ size }
     ensures { s.new ≡ with_bitmap s.old bits }
 {
-    write4(s, 0, bits);
+    write::<4>(s, 0, bits);
 }
 
 pub fn item(s: &[u8], at: usize) -> u32
@@ -29,7 +29,7 @@ pub fn put_item(s: &mut [u8], at: usize, value: u32)
     requires { (length s.old ≡ size) × (at ≤ 16) }
     ensures { s.new ≡ with_item s.old at value }
 {
-    write3(s, 4 + 3 * at, value);
+    write::<3>(s, 4 + 3 * at, value);
 }
 
 // The items from place `at` on, up to the count `n`, move up by one: place `at` is left as it was.

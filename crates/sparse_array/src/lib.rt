@@ -1,5 +1,6 @@
 // The port of sparse_array.rs: a sparse array of 17 slots over a lent part of 55 bytes, a bitmap of 4 bytes and then the items, 3 bytes each, packed.
-// The place of a slot is the number of present slots below it. Every function takes any 55 bytes.
+// The place of a slot is the number of present slots below it. Every function takes any 55 bytes. They come as a slice and not as an array: of a
+// `&mut [u8; 55]` out of a part of a store (`as_mut_array`) a proof learns, once it has come back, no more than its length.
 #![tactic(auto)]
 
 mod items;
@@ -12,34 +13,16 @@ ghost use Rattle.sparse_array.specs.Answers.{got, got_or_head, here, placed, Was
 use bitmap::bits::{count, lowest, place, present, with, without};
 use items::{bitmap, close, item, open, put_bitmap, put_item};
 
-// What a slot holds, or what was taken out.
-#[derive(Clone, Copy)]
-pub enum Got {
-    Item(u32),
-    Absent,
-}
-
-// Where a slot's item stands, or would stand.
-#[derive(Clone, Copy)]
-pub enum Place {
-    At(usize),
-    Absent,
-}
-
-// What a store of an item did.
-#[derive(Clone, Copy)]
+// A store of an item is new at its slot, or over the one that is there.
+#[derive(Clone, Copy, Debug, PartialEq, Eq)]
 pub enum Put {
     New,
     Replaced,
-    Absent,
 }
 
-// What a removal did.
-#[derive(Clone, Copy)]
-pub enum Removed {
-    Done,
-    Absent,
-}
+// The slot is over 16, or not present where a present one is asked for.
+#[derive(Clone, Copy, Debug, PartialEq, Eq)]
+pub struct NoSlot;
 
 // Whether a slot is present.
 pub fn has_sparse_index(s: &[u8], slot: u8) -> bool
@@ -53,104 +36,95 @@ pub fn has_sparse_index(s: &[u8], slot: u8) -> bool
 }
 
 // The place of a slot, present or not: the number of present slots below it.
-pub fn actual_index(s: &[u8], slot: u8) -> Place
+pub fn actual_index(s: &[u8], slot: u8) -> Option<usize>
     requires { length s.now ≡ size }
     ensures { result ≡ placed slot (entries s.now) }
 {
     if slot > 16 {
-        return Place::Absent;
+        return None;
     }
-    Place::At(place(bitmap(s), slot))
+    Some(place(bitmap(s), slot))
 }
 
 // The item of a slot.
-pub fn get(s: &[u8], slot: u8) -> Got
+pub fn get(s: &[u8], slot: u8) -> Option<u32>
     requires { length s.now ≡ size }
     ensures { result ≡ got (lookup slot (entries s.now)) }
 {
     if slot > 16 {
-        return Got::Absent;
+        return None;
     }
     let bits = bitmap(s);
-    if present(bits, slot) {
-        let at = place(bits, slot);
-        return Got::Item(item(s, at));
+    if !present(bits, slot) {
+        return None;
     }
-    Got::Absent
+    Some(item(s, place(bits, slot)))
 }
 
 // The item at a place: from place 0 on these are the items of all slots, in their order.
-pub fn item_at(s: &[u8], place: usize) -> Got
+pub fn item_at(s: &[u8], place: usize) -> Option<u32>
     requires { length s.now ≡ size }
     ensures { result ≡ got (nth place (entries s.now)) }
 {
-    if place < count(bitmap(s)) {
-        return Got::Item(item(s, place));
+    if count(bitmap(s)) <= place {
+        return None;
     }
-    Got::Absent
+    Some(item(s, place))
 }
 
 // The item of a slot, or of the lowest present slot where that one is missing.
-pub fn get_or_head(s: &[u8], slot: u8) -> Got
+pub fn get_or_head(s: &[u8], slot: u8) -> Option<u32>
     requires { length s.now ≡ size }
     ensures { result ≡ got_or_head slot (entries s.now) }
 {
     if slot > 16 {
-        return Got::Absent;
+        return None;
     }
-    let bits = bitmap(s);
-    if present(bits, slot) {
-        let at = place(bits, slot);
-        return Got::Item(item(s, at));
-    }
-    if count(bits) == 0 {
-        return Got::Absent;
-    }
-    Got::Item(item(s, 0))
+    get(s, slot).or_else(|| head(s))
 }
 
 // An item put at a slot: a new one goes in between, and the later items move up.
-pub fn set(s: &mut [u8], slot: u8, value: u32) -> Put
+pub fn set(s: &mut [u8], slot: u8, value: u32) -> Result<Put, NoSlot>
     requires { length s.old ≡ size }
     ensures { WasSet slot value s.old s.new result }
 {
     if slot > 16 {
-        return Put::Absent;
+        return Err(NoSlot);
     }
     let bits = bitmap(s);
     let at = place(bits, slot);
     if present(bits, slot) {
         put_item(s, at, value);
-        return Put::Replaced;
+        return Ok(Put::Replaced);
     }
     let n = count(bits);
     open(s, at, n);
     put_item(s, at, value);
     put_bitmap(s, with(bits, slot));
-    Put::New
+    Ok(Put::New)
 }
 
 // A slot taken out: the later items move down.
-pub fn remove(s: &mut [u8], slot: u8) -> Removed
+pub fn remove(s: &mut [u8], slot: u8) -> Result<(), NoSlot>
     requires { length s.old ≡ size }
     ensures { WasRemoved slot s.old s.new result }
 {
     if slot > 16 {
-        return Removed::Absent;
+        return Err(NoSlot);
     }
     let bits = bitmap(s);
-    if present(bits, slot) {
-        let at = place(bits, slot);
-        let n = count(bits);
-        close(s, at, n);
-        put_bitmap(s, without(bits, slot));
-        return Removed::Done;
+    if !present(bits, slot) {
+        return Err(NoSlot);
     }
-    Removed::Absent
+    let at = place(bits, slot);
+    let n = count(bits);
+    close(s, at, n);
+    put_bitmap(s, without(bits, slot));
+    Ok(())
 }
 
 // The item of the lowest present slot but for one: what is left of two slots once one is taken out.
-pub fn head_without(s: &[u8], slot: u8) -> Got
+pub fn head_without(s: &[u8], slot: u8) -> Option<u32>
     requires { length s.now ≡ size }
     ensures { result ≡ got (head_of (erase slot (entries s.now))) }
 {
@@ -158,44 +132,33 @@ pub fn head_without(s: &[u8], slot: u8) -> Got
         return head(s);
     }
     let bits = bitmap(s);
-    if present(bits, slot) {
-        if count(bits) == 1 {
-            return Got::Absent;
-        }
-        if place(bits, slot) == 0 {
-            return Got::Item(item(s, 1));
-        }
-        return Got::Item(item(s, 0));
+    if !present(bits, slot) {
+        return head(s);
+    }
+    if place(bits, slot) == 0 {
+        return item_at(s, 1);
     }
     head(s)
 }
 
 // The item of the lowest present slot.
-pub fn head(s: &[u8]) -> Got
+pub fn head(s: &[u8]) -> Option<u32>
     requires { length s.now ≡ size }
     ensures { result ≡ got (head_of (entries s.now)) }
 {
-    if count(bitmap(s)) == 0 {
-        return Got::Absent;
-    }
-    Got::Item(item(s, 0))
+    item_at(s, 0)
 }
 
 // The lowest present slot taken out, with its item.
-pub fn pop(s: &mut [u8]) -> Got
+pub fn pop(s: &mut [u8]) -> Option<u32>
     requires { length s.old ≡ size }
     ensures { WasPopped s.old s.new result }
 {
+    let first = head(s)?;
     let bits = bitmap(s);
-    let n = count(bits);
-    if n == 0 {
-        return Got::Absent;
-    }
-    let first = item(s, 0);
-    let slot = lowest(bits);
-    close(s, 0, n);
-    put_bitmap(s, without(bits, slot));
-    Got::Item(first)
+    close(s, 0, count(bits));
+    put_bitmap(s, without(bits, lowest(bits)));
+    Some(first)
 }
 
 // The number of present slots.

@@ -3,9 +3,9 @@ ghost use Rattle.promises.specs.Promises.{Check};
 ghost use Rattle.index_spec.specs.Layout.{layout};
 ghost use Rattle.index_spec.specs.Replies.{check_reply};
 
-use audit::Checked;
+use node::NotAStore;
 
-pub fn check(store: &[u8]) -> Checked
+pub fn check(store: &[u8]) -> Result<(), NotAStore>
     ensures { Check layout store.now (check_reply result) }
 {
     audit::check(store)

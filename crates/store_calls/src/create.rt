@@ -5,9 +5,9 @@ ghost use Rattle.index_spec.specs.Layout.{layout};
 ghost use Rattle.index_spec.specs.Replies.{create_reply};
 ghost use Rattle.index_spec.specs.Calls.{create_call};
 
-use records::create::Made;
+use records::create::NoRoom;
 
-pub fn create(store: &mut [u8], limit: u16) -> Made
+pub fn create(store: &mut [u8], limit: u16) -> Result<(), NoRoom>
     ensures promise { Create layout limit store.old store.new (create_reply result) }
     ensures is { Did (create_call limit store.old) result store.new }
 {

@@ -1,42 +1,24 @@
 -- What a turn says of the next place in a piece, and that turn by turn a piece is fed.
 -- Assumes nothing.
-use Prim.Native.Nat.{ℕ, ◌+◌, ◌-◌, ◌≤◌, ◌<◌}
+use Prim.Native.Nat.{ℕ, ◌-◌, ◌≤◌}
 use mathlib.Core.Path.{◌≡◌, refl, sym, ap, subst, ◌∙◌}
-use mathlib.Core.List.{List, []}
+use mathlib.Core.List.{List, [], ◌∷◌}
 use mathlib.Core.Option.{Option}
 use native.Mathlib.Omega.{arith}
-use lib.ListN.{length, take, drop, length-take, length-drop, drop_of_length-le}
-use lib.Seq.{take_all, drop-drop}
-use mir.Syntax.{w64}
-use mir.Val.{Fits}
+use lib.ListN.{length, take, drop, length-drop}
+use lib.Seq.{take_all}
+use Rattle.std.specs.Prelude
 use Rattle.model.specs.Numbers.{capacity_of}
 use Rattle.promises.specs.Meaning.{Meaning, Means, Reply}
 use Rattle.promises.specs.Says.{empty}
 use Rattle.promises.specs.Promises.{Create}
 use Rattle.index_spec.specs.Layout.{layout}
 use Rattle.line.specs.Run.{Feed, feed, wrote}
-use Rattle.line.specs.Code.{held_in}
-use Rattle.line.specs.declared.pieces.Held.{Held}
+use Rattle.line.specs.Code.{held_size, held_in}
 use Rattle.command.specs.Turned.{turn_of, Turned}
 use Rattle.command.proofs.TurnLaws.{turn_feeds}
 use Rattle.stream.specs.Fed.{Fed}
 use Rattle.command.specs.declared.turns.Turn.{Turn}
-
-module _ (piece : List ℕ) (at : ℕ) (h : at < length piece) {x : Option (List ℕ)} {line st st' out out' : List ℕ} {r : Turn} (t : Turned x (take (length piece - at) (drop at piece)) line st st' out out' r) where
-  lent : length (take (length piece - at) (drop at piece)) ≡ length piece - at
-  lent = simp (length-take, length-drop) (omega arith)
-
-  pub turn_next : at + r.used ≤ length piece
-  turn_next = omega (arith, t.within, lent)
-
-  pub turn_less : length piece - (at + r.used) < length piece - at
-  turn_less = omega (arith, turn_next, t.moves (omega (arith, lent)))
-
-  pub turn_fits : r.held.count ≤ 200
-  turn_fits = t.fits
-
-  pub turn_place : length piece < 18446744073709551616 → Fits w64 (at + r.used)
-  turn_place f = record { fits = omega (arith, turn_next) }
 
 -- ---- turn by turn
 
@@ -48,42 +30,34 @@ pub record Ahead (h : Option (List ℕ)) (piece st : List ℕ) (x : Option (List
 pub ahead_start : (x : Option (List ℕ)) (piece st : List ℕ) → Ahead x piece st x st piece
 ahead_start x piece st = record { going = λ m w. (m, w, refl, refl) }
 
-module _ (h : Option (List ℕ)) (piece st₀ : List ℕ) (x : Option (List ℕ)) (st : List ℕ) (at : ℕ) (a : Ahead h piece st₀ x st (drop at piece)) where
-  pub ahead_next : {line st' out out' : List ℕ} {r : Turn} → Turned x (take (length piece - at) (drop at piece)) line st st' out out' r
-      → (at' : ℕ) → at' ≡ at + r.used → Ahead h piece st₀ (held_in r.held line) st' (drop at' piece)
-  ahead_next {line} {st'} {out} {out'} {r} t at' e = record { going = λ m w. go m (a.going m w) }
+module _ (h : Option (List ℕ)) (piece st₀ : List ℕ) (x : Option (List ℕ)) (st rest : List ℕ) (a : Ahead h piece st₀ x st rest) where
+  pub ahead_next : {line st' out out' : List ℕ} {r : Turn} → Turned x rest line st st' out out' r → Ahead h piece st₀ (held_in r.held line) st' (take (length rest - r.used) (drop r.used rest))
+  ahead_next {line} {st'} {out} {out'} {r} t = record { going = λ m w. go m (a.going m w) }
     where
-      whole : take (length piece - at) (drop at piece) ≡ drop at piece
-      whole = take_all (length piece - at) (drop at piece) (omega (arith, length-drop at piece))
+      left : (n : Meaning) → (turn_of x rest n).rest ≡ take (length rest - r.used) (drop r.used rest)
+      left n = sym (t.rest n) ∙ sym (take_all (length rest - r.used) (drop r.used rest) (omega (arith, length-drop r.used rest)))
 
-      turned : Turned x (drop at piece) line st st' out out' r
-      turned = subst (λ (p : List ℕ). Turned x p line st st' out out' r) whole t
+      fed : (n : Meaning) → feed x n rest ≡ wrote (turn_of x rest n).bytes (feed (held_in r.held line) (turn_of x rest n).after (take (length rest - r.used) (drop r.used rest)))
+      fed n = turn_feeds x rest n ∙ rw (← t.held n, left n) refl
 
-      rest : (n : Meaning) → (turn_of x (drop at piece) n).rest ≡ drop at' piece
-      rest n = sym (turned.rest n) ∙ drop-drop r.used at piece ∙ ap (λ (i : ℕ). drop i piece) (sym e)
-
-      fed : (n : Meaning) → feed x n (drop at piece)
-          ≡ wrote (turn_of x (drop at piece) n).bytes (feed (held_in r.held line) (turn_of x (drop at piece) n).after (drop at' piece))
-      fed n = turn_feeds x (drop at piece) n ∙ rw (← turned.held n, rest n) refl
-
-      go : (m : Meaning) → ((n : Meaning) × Means layout st n × ((feed h m piece).held ≡ (feed x n (drop at piece)).held) × ((feed h m piece).after ≡ (feed x n (drop at piece)).after))
-          → (n : Meaning) × Means layout st' n × ((feed h m piece).held ≡ (feed (held_in r.held line) n (drop at' piece)).held) × ((feed h m piece).after ≡ (feed (held_in r.held line) n (drop at' piece)).after)
+      go : (m : Meaning) → ((n : Meaning) × Means layout st n × ((feed h m piece).held ≡ (feed x n rest).held) × ((feed h m piece).after ≡ (feed x n rest).after))
+          → (n : Meaning) × Means layout st' n × ((feed h m piece).held ≡ (feed (held_in r.held line) n (take (length rest - r.used) (drop r.used rest))).held)
+          × ((feed h m piece).after ≡ (feed (held_in r.held line) n (take (length rest - r.used) (drop r.used rest))).after)
       go m (n, w, p, q) =
-          ((turn_of x (drop at piece) n).after, turned.after n w, p ∙ ap (λ (f : Feed). f.held) (fed n), q ∙ ap (λ (f : Feed). f.after) (fed n))
+          ((turn_of x rest n).after, t.after n w, p ∙ ap (λ (f : Feed). f.held) (fed n), q ∙ ap (λ (f : Feed). f.after) (fed n))
 
-pub fed_all : (h : Option (List ℕ)) (piece st₀ st line : List ℕ) (at : ℕ) (r : Held) → Ahead h piece st₀ (held_in r line) st (drop at piece) → length piece ≤ at → r.count ≤ 200 → Fed h piece line st₀ st r
+pub fed_all : (h : Option (List ℕ)) (piece st₀ st line rest : List ℕ) (r : Prelude.Option ℕ) → Ahead h piece st₀ (held_in r line) st rest → length rest ≡ 0 → held_size r ≤ 200 → Fed h piece line st₀ st r
 unfolding feed
-fed_all h piece st₀ st line at r a past few = record {
+fed_all h piece st₀ st line rest r a past few = record {
   fits = few;
-  held = λ m w. (at_end m (a.going m w)).0;
-  after = λ m w. (at_end m (a.going m w)).1;
+  held = λ m w. (at_end m rest past (a.going m w)).0;
+  after = λ m w. (at_end m rest past (a.going m w)).1;
 }
   where
-    at_end : (m : Meaning) → ((n : Meaning) × Means layout st n × ((feed h m piece).held ≡ (feed (held_in r line) n (drop at piece)).held) × ((feed h m piece).after ≡ (feed (held_in r line) n (drop at piece)).after))
+    at_end : (m : Meaning) (l : List ℕ) → length l ≡ 0 → ((n : Meaning) × Means layout st n × ((feed h m piece).held ≡ (feed (held_in r line) n l).held) × ((feed h m piece).after ≡ (feed (held_in r line) n l).after))
         → (held_in r line ≡ (feed h m piece).held) × Means layout st (feed h m piece).after
-    at_end m (n, w, p, q) =
-        let none_left : drop at piece ≡ [] = drop_of_length-le piece {i = at} past in
-        (sym (rw none_left at p), subst (Means layout st) (sym (rw none_left at q)) w)
+    at_end m [] e (n, w, p, q) = (sym p, subst (Means layout st) (sym q) w)
+    at_end m (c ∷ l) e (n, w, p, q) = absurd (omega arith)
 
 -- ---- the program's store
 

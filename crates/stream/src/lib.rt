@@ -5,7 +5,7 @@ ghost use Rattle.std.specs.Prelude.{◌≡◌, ◌≤◌, length};
 ghost use Rattle.promises.specs.Meaning.{Means};
 ghost use Rattle.promises.specs.Says.{empty};
 ghost use Rattle.index_spec.specs.Layout.{layout};
-ghost use Rattle.line.specs.Code.{held_in};
+ghost use Rattle.line.specs.Code.{held_size, held_in};
 ghost use Rattle.listings.specs.Listing.{output_room};
 ghost use Rattle.stream.specs.Fed.{Fed};
 
@@ -26,18 +26,12 @@ const OUTPUT_ROOM: usize = 141 * 511 + 11;
 fn read_some(stdin: &mut Stdin, piece: &mut [u8]) -> usize
     ensures { result ≤ length piece.new }
 {
-    match stdin.read(piece) {
-        Ok(n) => n,
-        Err(_) => 0,
-    }
+    stdin.read(piece).unwrap_or(0)
 }
 
 // Bytes go to standard output. What it does not take is lost.
 fn write_out(stdout: &mut Stdout, bytes: &[u8]) {
-    match stdout.write_all(bytes) {
-        Ok(()) => {}
-        Err(_) => {}
-    }
+    let _ = stdout.write_all(bytes);
 }
 
 // "It has a store of 65,536 bytes (511 keys) and limit 128."
@@ -45,10 +39,11 @@ fn new_store(store: &mut [u8])
     requires { length store.old ≡ 65536 }
     ensures { Means layout store.new (empty 128 511) }
 {
-    index::create::create(store, LIMIT);
+    index::create::create(store, LIMIT).unwrap();
 }
 
-// Each line that ends in a piece is answered as soon as it is there. The answer is what is held of the line after them.
+// Each line that ends in a piece is answered as soon as it is there. The answer is what is held of the line after them. No index is counted: a turn takes
+// what its line has.
 fn feed(
     store: &mut [u8],
     piece: &[u8],
@@ -57,22 +52,22 @@ fn feed(
     out: &mut [u8],
     stdout: &mut Stdout,
 ) -> Held
-    requires { (length store.old ≤ 65536) × (held.count ≤ 200) × (200 ≤ length line.old) × (length out.old ≡ output_room) }
+    requires { (length store.old ≤ 65536) × (held_size held ≤ 200) × (200 ≤ length line.old) × (length out.old ≡ output_room) }
     ensures { Fed (held_in held line.old) piece.now line.new store.old store.new result }
 {
-    let mut h = held;
-    let mut at: usize = 0;
-    while at < piece.len() {
-        let turn = take_turn(store, &piece[at..], h, line, out);
-        let n = turn.bytes;
-        write_out(stdout, &out[..n]);
-        h = turn.held;
-        at += turn.used;
+    let mut held = held;
+    let mut rest = piece;
+    while !rest.is_empty() {
+        let turn = take_turn(store, rest, held, line, out);
+        write_out(stdout, &out[..turn.bytes]);
+        held = turn.held;
+        rest = &rest[turn.used..];
     }
-    h
+    held
 }
 
-// The input is read in pieces as long as their buffer at most. The answer is what is held of a line at its end.
+// The input is read in pieces as long as their buffer at most. The answer is what is held of a line at its end. The count of the pieces only shows that
+// it ends.
 fn read_all(
     store: &mut [u8],
     piece: &mut [u8],
@@ -82,20 +77,15 @@ fn read_all(
     stdout: &mut Stdout,
 ) -> Held
     requires { (length store.old ≤ 65536) × (200 ≤ length line.old) × (length out.old ≡ output_room) }
-    ensures { result.count ≤ 200 }
+    ensures { held_size result ≤ 200 }
 {
-    let mut held = Held {
-        count: 0,
-        over: false,
-    };
-    let mut turns = u64::MAX;
-    while turns > 0 {
+    let mut held = Some(0);
+    for _ in 0..u64::MAX {
         let n = read_some(stdin, piece);
         if n == 0 {
-            return held;
+            break;
         }
         held = feed(store, &piece[..n], held, line, out, stdout);
-        turns -= 1;
     }
     held
 }
@@ -118,12 +108,16 @@ fn answer_all(
 
 // Standard input is read and answered with an empty store of 65,536 bytes.
 pub fn serve(piece: &mut [u8], mut stdin: Stdin, mut stdout: Stdout) {
-    let mut store_space = [0u8; STORE_SIZE];
-    let store: &mut [u8] = &mut store_space;
-    let mut line_space = [0u8; LINE_ROOM];
-    let line: &mut [u8] = &mut line_space;
-    let mut out_space = [0u8; OUTPUT_ROOM];
-    let out: &mut [u8] = &mut out_space;
-    new_store(store);
-    answer_all(store, piece, line, out, &mut stdin, &mut stdout);
+    let mut store = [0u8; STORE_SIZE];
+    let mut line = [0u8; LINE_ROOM];
+    let mut out = [0u8; OUTPUT_ROOM];
+    new_store(&mut store);
+    answer_all(
+        &mut store,
+        piece,
+        &mut line,
+        &mut out,
+        &mut stdin,
+        &mut stdout,
+    );
 }

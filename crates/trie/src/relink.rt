@@ -15,15 +15,7 @@ use trie_spec::descent::Spot;
 pub fn with_root(h: Header, root: u32) -> Header
     ensures { result ≡ with_root h root }
 {
-    Header {
-        capacity: h.capacity,
-        limit: h.limit,
-        leaves: h.leaves,
-        branches: h.branches,
-        root,
-        leaf: h.leaf,
-        branch: h.branch,
-    }
+    Header { root, ..h }
 }
 
 // The link goes to the spot, and the header to its place.

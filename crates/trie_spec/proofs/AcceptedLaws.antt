@@ -21,12 +21,11 @@ use Rattle.node.specs.Header.{head_in}
 use Rattle.node.specs.Leaf.{leaf_in}
 use Rattle.node.specs.Branch.{array_in}
 use Rattle.records.specs.Chain.{leaves as leaf_kind, branches as branch_kind}
-use Rattle.node.specs.declared.child.Linked.TheVariants.{To}
 use Rattle.node.proofs.HeaderLaws.{Right, good_right, blocks_fit}
 use Rattle.trie_spec.specs.Accepted.{link_to, Accepted}
-use Rattle.trie_spec.specs.Walk.{steps, near}
-use Rattle.trie_spec.specs.declared.descent.Closest.TheVariants.{Leaf}
+use Rattle.trie_spec.specs.Walk.{steps, near, leaf_at}
 use Rattle.trie_spec.proofs.HeldLaws.{Inside, link_back, walks}
+use Rattle.std.specs.Prelude.{Ok}
 
 module _ (st : List ℕ) (o : Option Tree) (a : Accepted st o) where
   pub right : Right st (head_in st)
@@ -71,13 +70,13 @@ module _ (st : List ℕ) (t : Tree) (a : Accepted st (some t)) where
   pub branch_count_lem : (head_in st).branches ≡ branches t
   branch_count_lem = sym a.branches.total ∙ sum_branches (head_in st).capacity t a.branches.within
 
-  pub root_link : link_of (head_in st).capacity (head_in st).root ≡ To (link_to (root t))
+  pub root_link : link_of (head_in st).capacity (head_in st).root ≡ Ok (link_to (root t))
   root_link = ap (link_of (head_in st).capacity) a.rooted ∙ link_back st (head_in st).capacity (few st (some t) a) t a.picture inside
 
-  pub at_closest : (k : List ℕ) → near st (head_in st).capacity k steps 0 (link_to (root t)) ≡ Leaf (record { 0 = (closest k t).number }) (length (closest k t).path)
+  pub at_closest : (k : List ℕ) → near st (head_in st).capacity k steps 0 (link_to (root t)) ≡ Ok (leaf_at (record { 0 = (closest k t).number }) (length (closest k t).path))
   at_closest k =
       walks st (head_in st).capacity (few st (some t) a) k t a.held a.picture inside steps 0 (omega (arith, depth_bound k t a.picture))
-      ∙ ap (Leaf (record { 0 = (closest k t).number })) (zero_more (length (closest k t).path))
+      ∙ ap (λ (z : ℕ). Ok (leaf_at (record { 0 = (closest k t).number }) z)) (zero_more (length (closest k t).path))
     where
       zero_more : (d : ℕ) → 0 + d ≡ d
       zero_more d = omega arith

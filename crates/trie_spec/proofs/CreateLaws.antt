@@ -13,7 +13,7 @@ use Rattle.node.specs.Header.{head_in}
 use Rattle.records.specs.Chain.{Kind, Free, leaves, branches}
 use Rattle.records.specs.Create.{created, new_head}
 use Rattle.node.specs.declared.header.Header.{Header}
-use Rattle.node.specs.declared.header.Head.TheVariants.{Good}
+use Rattle.std.specs.Prelude.{Ok}
 use Rattle.records.proofs.ChainLaws.{ChainIn}
 use Rattle.records.proofs.CreateLaws.{up_from, create_head, create_right, create_leaves, create_branches}
 use Rattle.trie_spec.specs.Accepted.{leaf_uses, branch_uses, Accepted}
@@ -49,7 +49,7 @@ module _ (limit : ℕ) (st : List ℕ) (long : least_size ≤ length st) (small 
   pub create_accepted : ((i : ℕ) → i < used (created limit st) → get_or (created limit st) i 0 < 256) → Accepted (created limit st) none
   create_accepted bytes = record {
     bytes = bytes;
-    head = create_right limit st small long ∙ ap Good (sym head_is);
+    head = create_right limit st small long ∙ ap Ok (sym head_is);
     held = tt;
     rooted = ap (λ (z : Header). z.root) head_is;
     picture = tt;

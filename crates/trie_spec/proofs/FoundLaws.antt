@@ -27,20 +27,18 @@ use Rattle.sparse_array.proofs.ArrayLaws.{rising}
 use Rattle.node.specs.Child.{link_of, item_of}
 use Rattle.node.specs.Header.{head_in}
 use Rattle.node.specs.Leaf.{Is, leaf_in}
-use Rattle.node.specs.Branch.{array_in, children_in, head_link}
-use Rattle.node.specs.declared.child.Linked.TheVariants.{To, Absent}
+use Rattle.node.specs.Branch.{array_in, children_in, some_link, head_link}
 use Rattle.trie_spec.specs.Accepted.{link_to, codes, memory_of, Accepted}
 use Rattle.trie_spec.specs.Walk.{steps, step, walk}
-use Rattle.trie_spec.specs.Find.{no_stop, on_walked, find_in}
+use Rattle.trie_spec.specs.Find.{no_stop, on_walked, find_in, Exact}
 use Rattle.trie_spec.specs.declared.descent.Spot.{Spot}
 use Rattle.trie_spec.specs.declared.descent.Spot.TheVariants.{Root, Under}
 use Rattle.trie_spec.specs.declared.descent.Step.{Step}
-use Rattle.trie_spec.specs.declared.find.Exact.{Exact}
-use Rattle.trie_spec.specs.declared.find.Exact.TheVariants.{Leaf, Absent as NotThere}
 use Rattle.trie_spec.proofs.WalkLaws.{walk_leaf, walk_step}
 use Rattle.trie_spec.proofs.RowCodes.{codes_drop, codes_high, length_codes}
 use Rattle.trie_spec.proofs.HeldLaws.{Linkable, linkable, Inside, inside_at, link_at, link_lacks, link_back}
 use Rattle.trie_spec.proofs.AcceptedLaws.{few, inside, no_leaves, leaf_count_lem, root_link}
+use Rattle.std.specs.Prelude.{Ok, Some, None}
 
 -- a row with one child less
 drop_length : {s : ℕ} {u : Tree} {ks : Kids} → At s u ks → suc (length (row (drop s ks))) ≡ length (row ks)
@@ -58,7 +56,7 @@ module _ (st : List ℕ) (cap : ℕ) (few : cap ≤ most) (k : List ℕ) where
   -- branch f has two children, and c is left of them without slot s
   pub record Pair (f s : ℕ) (c : Child) : Type 0 where
     pub two : length (children_in st f) ≡ 2
-    pub other : head_link cap (erase s (children_in st f)) ≡ To (link_to c)
+    pub other : head_link cap (erase s (children_in st f)) ≡ Ok (Some (link_to c))
     pub fits : Linkable (link_to c)
 
   -- Where the descent stands that began at the spot `at`, below the spot `above`, by what the removal cuts.
@@ -70,13 +68,13 @@ module _ (st : List ℕ) (cap : ℕ) (few : cap ≤ most) (k : List ℕ) where
 
   -- What is found, by the value that the tree has for the key.
   abbrev pub Found : (t : Tree) (at above : Spot) → Option ℕ → Exact → Type 0
-  Found t at above none e = e ≡ NotThere
-  Found t at above (some v) e = (s : Step) × (e ≡ Leaf (record { 0 = (closest k t).number }) s) × Is (leaf_in st (closest k t).number) k v × Stood (cut k t) at above s
+  Found t at above none e = e ≡ Ok None
+  Found t at above (some v) e = (s : Step) × (e ≡ Ok (Some (record { 0 = (closest k t).number }, s))) × Is (leaf_in st (closest k t).number) k v × Stood (cut k t) at above s
 
   -- every child's link is read back
   abbrev Backs : Kids → Type 0
   Backs end = Unit {0}
-  Backs (kid s t ks) = (link_of cap (item_of (link_to (root t))) ≡ To (link_to (root t))) × Linkable (link_to (root t)) × Backs ks
+  Backs (kid s t ks) = (link_of cap (item_of (link_to (root t))) ≡ Ok (link_to (root t))) × Linkable (link_to (root t)) × Backs ks
 
   backs : (p : ℕ) (w : List ℕ) (ks : Kids) → Pictures p w ks → ((m : ℕ) → 1 ≤ tallies (at m) (λ j q. 0) ks → m < cap) → ((m : ℕ) → 1 ≤ tallies (λ j. 0) (λ j q. at m j) ks → m < cap) → Backs ks
   backs p w end h l b = tt
@@ -108,7 +106,7 @@ module _ (st : List ℕ) (cap : ℕ) (few : cap ≤ most) (k : List ℕ) where
         let b = subst Backs e (drop_backs s ks (backs p pic.0 ks pic.1 (λ m q. i.leaves m (omega arith)) (λ m q. i.branches m (omega (arith, q))))) in
         record {
           two = size ∙ ap (λ (d : Kids). suc (length (row d))) e;
-          other = ap (head_link cap) (left ∙ ap (λ (d : Kids). codes (row d)) e) ∙ b.0;
+          other = ap (head_link cap) (left ∙ ap (λ (d : Kids). codes (row d)) e) ∙ ap some_link b.0;
           fits = b.1;
         }
 
@@ -149,14 +147,14 @@ module _ (st : List ℕ) (cap : ℕ) (few : cap ≤ most) (k : List ℕ) where
       let pu : Picture u = (picture_at p pic.0 a pic.1).0 in
       let iu : I u = inside_at st cap few a i in
       let found = link_at st cap few n p s ks u h a pu iu in
-      let w = walk_step st cap k no_stop (step (link_to (to_branch n p)) spot above) f (record { 0 = n }) refl (omega (arith, place_bound n p ks pic)) (To (link_to (root u))) (sym found) in
+      let w = walk_step st cap k no_stop (step (link_to (to_branch n p)) spot above) f (record { 0 = n }) refl (omega (arith, place_bound n p ks pic)) (Ok (Some (link_to (root u)))) (sym found) in
       rw (get_at k a, w)
       (step_found n p s ks u h pic i a once spot above (get_t k u) (on_walked st k (walk st cap k no_stop f (step (link_to (root u)) (Under (record { 0 = n }) s) spot)))
       (ih s u a (holds_at (memory_of st) a h.1) pu iu (λ m. omega (arith, once m, tally_at (λ j. 0) (λ j r. at m j) a)) (suc p) f (picture_at p pic.0 a pic.1).1 (omega (arith, place_bound n p ks pic)) (omega arith) (Under (record { 0 = n }) s) spot)
       (closest_at k (first_leaf k ks) a) refl)
   at_branch n p ks ih h pic i once low (suc f) l e at above (inr d) =
       let absent = link_lacks st cap few n p (nibble k p) ks h d in
-      let w = walk_step st cap k no_stop (step (link_to (to_branch n p)) at above) f (record { 0 = n }) refl (omega (arith, place_bound n p ks pic)) Absent (sym absent) in
+      let w = walk_step st cap k no_stop (step (link_to (to_branch n p)) at above) f (record { 0 = n }) refl (omega (arith, place_bound n p ks pic)) (Ok None) (sym absent) in
       rw (get_lacks k (nibble k p) ks d, w)
 
   at_leaf : (n : ℕ) (l : List ℕ) (v : ℕ) → Is (leaf_in st n) l v → (low f : ℕ) → low ≤ 2 * key_limit → 2 * key_limit < f + low → (at above : Spot)
@@ -167,7 +165,7 @@ module _ (st : List ℕ) (cap : ℕ) (few : cap ≤ most) (k : List ℕ) where
       let w = walk_leaf st cap k no_stop z f (record { 0 = n }) refl in
       rw (w, i.key) (go (ordered k l))
     where
-      go : {o : Ordering} → Ordered k l o → Found (leaf n l v) at above (on_equal o (some v) none) (on_equal o (Leaf (record { 0 = n }) (step (link_to (to_leaf n)) at above)) NotThere)
+      go : {o : Ordering} → Ordered k l o → Found (leaf n l v) at above (on_equal o (some v) none) (on_equal o (Ok (Some (record { 0 = n }, step (link_to (to_leaf n)) at above))) (Ok None))
       go (before q) = refl
       go (equal q) = (step (link_to (to_leaf n)) at above, refl, subst (λ (z : List ℕ). Is (leaf_in st n) z v) (sym q) i, (refl, refl))
       go (after q) = refl
@@ -181,7 +179,7 @@ module _ (st : List ℕ) (cap : ℕ) (few : cap ≤ most) (k : List ℕ) where
 -- In an accepted store.
 module _ (st : List ℕ) (k : List ℕ) where
   abbrev pub FoundIn : (o : Option Tree) → Accepted st o → Exact → Type 0
-  FoundIn none acc e = e ≡ NotThere
+  FoundIn none acc e = e ≡ Ok None
   FoundIn (some t) acc e = Found st (head_in st).capacity (few st (some t) acc) k t Root Root (get_t k t) e
 
   starts : (t : Tree) → StartsAt 0 t

@@ -26,14 +26,13 @@ use Rattle.pictures.proofs.Frame.{tally_at, at_self}
 use Rattle.bitmap.specs.Entries.{lookup}
 use Rattle.node.specs.Child.{number_in, link_of, item_of}
 use Rattle.node.specs.Leaf.{Is, leaf_in}
-use Rattle.node.specs.Branch.{children_in, linked_in, near_in}
+use Rattle.node.specs.Branch.{children_in, some_link, linked_in, near_in}
 use Rattle.node.specs.declared.child.Link.{Link}
-use Rattle.node.specs.declared.child.Linked.TheVariants.{To, Absent}
 use Rattle.node.proofs.ChildLaws.{leaf_back, branch_back}
 use Rattle.trie_spec.specs.Accepted.{link_to, codes, memory_of}
-use Rattle.trie_spec.specs.Walk.{near}
-use Rattle.trie_spec.specs.declared.descent.Closest.TheVariants.{Leaf}
+use Rattle.trie_spec.specs.Walk.{near, leaf_at}
 use Rattle.trie_spec.proofs.WalkLaws.{near_leaf, near_step}
+use Rattle.std.specs.Prelude.{Ok, Some, None}
 
 -- the bytes of a slice are bytes
 pub bytes_of : (k : List ℕ) → ((i : ℕ) → Fits w8 (get_or k i 0)) → Bytes k
@@ -77,7 +76,7 @@ module _ (st : List ℕ) (cap : ℕ) (few : cap ≤ most) where
   own n p ks i = i.branches n (omega (arith, at_self n))
 
   -- the link to a tree is read back
-  pub link_back : (t : Tree) → Picture t → Inside t → link_of cap (item_of (link_to (root t))) ≡ To (link_to (root t))
+  pub link_back : (t : Tree) → Picture t → Inside t → link_of cap (item_of (link_to (root t))) ≡ Ok (link_to (root t))
   link_back (leaf n k v) pic i = leaf_back cap few n 0 (i.leaves n (omega (arith, at_self n))) (omega arith)
   link_back (branch n p ks) pic i = branch_back cap few n p (own n p ks i) (omega (arith, place_bound n p ks pic))
 
@@ -91,34 +90,34 @@ module _ (st : List ℕ) (cap : ℕ) (few : cap ≤ most) where
 
   -- a child's link, by its slot
   pub link_at : (n p s : ℕ) (ks : Kids) (u : Tree) → Holds (memory_of st) (branch n p ks) → At s u ks → Picture u → Inside u
-      → linked_in cap s (children_in st n) ≡ To (link_to (root u))
-  link_at n p s ks u h a pic i = rw (h.0, lookup_codes s (row ks), row_at a) (link_back u pic i)
+      → linked_in cap s (children_in st n) ≡ Ok (Some (link_to (root u)))
+  link_at n p s ks u h a pic i = rw (h.0, lookup_codes s (row ks), row_at a) (ap some_link (link_back u pic i))
 
-  pub link_lacks : (n p s : ℕ) (ks : Kids) → Holds (memory_of st) (branch n p ks) → Lacks s ks → linked_in cap s (children_in st n) ≡ Absent
+  pub link_lacks : (n p s : ℕ) (ks : Kids) → Holds (memory_of st) (branch n p ks) → Lacks s ks → linked_in cap s (children_in st n) ≡ Ok None
   link_lacks n p s ks h d = rw (h.0, lookup_codes s (row ks), row_lacks s ks d)
 
   pub near_at : (n p s : ℕ) (ks : Kids) (u : Tree) → Holds (memory_of st) (branch n p ks) → At s u ks → Picture u → Inside u
-      → near_in cap s (children_in st n) ≡ To (link_to (root u))
-  near_at n p s ks u h a pic i = rw (h.0, lookup_codes s (row ks), row_at a) (link_back u pic i)
+      → near_in cap s (children_in st n) ≡ Ok (Some (link_to (root u)))
+  near_at n p s ks u h a pic i = rw (h.0, lookup_codes s (row ks), row_at a) (ap some_link (link_back u pic i))
 
   pub near_first : (n p s r : ℕ) (t : Tree) (ks : Kids) → Holds (memory_of st) (branch n p (kid r t ks)) → Lacks s (kid r t ks) → Picture t → Inside t
-      → near_in cap s (children_in st n) ≡ To (link_to (root t))
-  near_first n p s r t ks h d pic i = rw (h.0, lookup_codes s (row (kid r t ks)), row_lacks s (kid r t ks) d) (link_back t pic i)
+      → near_in cap s (children_in st n) ≡ Ok (Some (link_to (root t)))
+  near_first n p s r t ks h d pic i = rw (h.0, lookup_codes s (row (kid r t ks)), row_lacks s (kid r t ks) d) (ap some_link (link_back t pic i))
 
   module _ (k : List ℕ) where
     abbrev Walks : Tree → Type 0
     Walks t = Holds (memory_of st) t → Picture t → Inside t → (f d : ℕ) → length (closest k t).path < f
-        → near st cap k f d (link_to (root t)) ≡ Leaf (record { 0 = (closest k t).number }) (d + length (closest k t).path)
+        → near st cap k f d (link_to (root t)) ≡ Ok (leaf_at (record { 0 = (closest k t).number }) (d + length (closest k t).path))
 
     -- a branch from which the descent goes to the child u
-    goes : (n p : ℕ) (ks : Kids) (u : Tree) → near_in cap (nibble k p) (children_in st n) ≡ To (link_to (root u)) → closest_k k (nibble k p) ks (first k ks) ≡ closest k u
-        → ((f d : ℕ) → length (closest k u).path < f → near st cap k f d (link_to (root u)) ≡ Leaf (record { 0 = (closest k u).number }) (d + length (closest k u).path))
+    goes : (n p : ℕ) (ks : Kids) (u : Tree) → near_in cap (nibble k p) (children_in st n) ≡ Ok (Some (link_to (root u))) → closest_k k (nibble k p) ks (first k ks) ≡ closest k u
+        → ((f d : ℕ) → length (closest k u).path < f → near st cap k f d (link_to (root u)) ≡ Ok (leaf_at (record { 0 = (closest k u).number }) (d + length (closest k u).path)))
         → (f d : ℕ) → length (closest k (branch n p ks)).path < f
-        → near st cap k f d (link_to (to_branch n p)) ≡ Leaf (record { 0 = (closest k (branch n p ks)).number }) (d + length (closest k (branch n p ks)).path)
+        → near st cap k f d (link_to (to_branch n p)) ≡ Ok (leaf_at (record { 0 = (closest k (branch n p ks)).number }) (d + length (closest k (branch n p ks)).path))
     goes n p ks u g e ih zero d b = absurd (omega arith)
     goes n p ks u g e ih (suc f) d b =
-        near_step st cap k d (link_to (to_branch n p)) f (record { 0 = n }) refl (To (link_to (root u))) (sym g)
-        ∙ rw e (ih f (d + 1) (omega (arith, b, ap (λ z. length z.path) e)) ∙ ap (Leaf (record { 0 = (closest k u).number })) (shift d (length (closest k u).path)))
+        near_step st cap k d (link_to (to_branch n p)) f (record { 0 = n }) refl (Ok (Some (link_to (root u)))) (sym g)
+        ∙ rw e (ih f (d + 1) (omega (arith, b, ap (λ z. length z.path) e)) ∙ ap (λ (z : ℕ). Ok (leaf_at (record { 0 = (closest k u).number }) z)) (shift d (length (closest k u).path)))
       where
         shift : (a b : ℕ) → a + 1 + b ≡ a + suc b
         shift a b = omega arith
@@ -129,16 +128,16 @@ module _ (st : List ℕ) (cap : ℕ) (few : cap ≤ most) where
         (λ n l v h pic i f d b. at_leaf n f d b)
         (λ n p ks ih h pic i f d b. step n p ks ih h pic i f d b (at_or_lacks (nibble k p) ks))
       where
-        at_leaf : (n f d : ℕ) → 0 < f → near st cap k f d (link_to (to_leaf n)) ≡ Leaf (record { 0 = n }) (d + 0)
+        at_leaf : (n f d : ℕ) → 0 < f → near st cap k f d (link_to (to_leaf n)) ≡ Ok (leaf_at (record { 0 = n }) (d + 0))
         at_leaf n zero d b = absurd (omega arith)
-        at_leaf n (suc f) d b = near_leaf st cap k d (link_to (to_leaf n)) f (record { 0 = n }) refl ∙ ap (Leaf (record { 0 = n })) (zero_more d)
+        at_leaf n (suc f) d b = near_leaf st cap k d (link_to (to_leaf n)) f (record { 0 = n }) refl ∙ ap (λ (z : ℕ). Ok (leaf_at (record { 0 = n }) z)) (zero_more d)
           where
             zero_more : (d : ℕ) → d ≡ d + 0
             zero_more d = omega arith
 
         step : (n p : ℕ) (ks : Kids) → ((s : ℕ) (u : Tree) → At s u ks → Walks u) → Holds (memory_of st) (branch n p ks) → (pic : Picture (branch n p ks)) → Inside (branch n p ks)
             → (f d : ℕ) → length (closest k (branch n p ks)).path < f → ((u : Tree) × At (nibble k p) u ks) ⊎ Lacks (nibble k p) ks
-            → near st cap k f d (link_to (to_branch n p)) ≡ Leaf (record { 0 = (closest k (branch n p ks)).number }) (d + length (closest k (branch n p ks)).path)
+            → near st cap k f d (link_to (to_branch n p)) ≡ Ok (leaf_at (record { 0 = (closest k (branch n p ks)).number }) (d + length (closest k (branch n p ks)).path))
         step n p ks ih h pic i f d b (inl (u, a)) =
             let pu = (picture_at p pic.0 a pic.1).0 in
             goes n p ks u (near_at n p (nibble k p) ks u h a pu (inside_at a i)) (closest_at k (first k ks) a)

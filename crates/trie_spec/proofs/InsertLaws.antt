@@ -36,14 +36,14 @@ use Rattle.node.specs.Leaf.{Leaf, Is, leaf_in}
 use Rattle.node.specs.Branch.{array_in, children_in}
 use Rattle.records.specs.Chain.{Free, leaves as leaf_kind, branches as branch_kind}
 use Rattle.node.specs.declared.header.Header.{Header}
-use Rattle.node.specs.declared.header.Head.TheVariants.{Good}
+use Rattle.std.specs.Prelude.{Ok}
 use Rattle.node.proofs.HeaderLaws.{Right, right_good}
 use Rattle.trie_spec.specs.Accepted.{link_to, memory_of, leaf_uses, branch_uses, Accepted}
 use Rattle.trie_spec.proofs.AcceptedLaws.{right, few_last, leaf_count_lem, branch_count_lem}
 
 -- a header is right again where the mark, the capacity and the length are as they were
 pub right_again : (st st' : List ℕ) → Right st (head_in st) → length st' ≡ length st → mark_in st' ≡ mark_in st → (head_in st').capacity ≡ (head_in st).capacity
-    → (head_in st').leaves ≤ (head_in st').capacity → (head_in st').branches ≤ (head_in st').capacity → head_of st' ≡ Good (head_in st')
+    → (head_in st').leaves ≤ (head_in st').capacity → (head_in st').branches ≤ (head_in st').capacity → head_of st' ≡ Ok (head_in st')
 right_again st st' r l m c ls bs = right_good st' (head_in st') (record {
   is = refl;
   long = omega (arith, r.long);

@@ -12,18 +12,17 @@ use Rattle.pictures.proofs.CallLaws.{get_entries}
 use Rattle.node.specs.Header.{head_in}
 use Rattle.node.specs.Leaf.{leaf_in}
 use Rattle.trie_spec.specs.Accepted.{Accepted}
-use Rattle.trie_spec.specs.Find.{find_in}
+use Rattle.trie_spec.specs.Find.{find_in, Exact}
 use Rattle.trie_spec.specs.declared.descent.Spot.TheVariants.{Root}
-use Rattle.trie_spec.specs.declared.find.Exact.{Exact}
-use Rattle.trie_spec.specs.declared.find.Exact.TheVariants.{Leaf, Absent, Wrong}
 use Rattle.trie_spec.proofs.AcceptedLaws.{few}
 use Rattle.trie_spec.proofs.FoundLaws.{Found, find_means}
+use Rattle.std.specs.Prelude.{Ok, Err, Some, None}
 
 -- the value that a lookup found
 abbrev pub value_found : List ℕ → Exact → Option ℕ
-value_found st (Leaf n s) = some (leaf_in st n.0).value
-value_found st Absent = none
-value_found st Wrong = none
+value_found st (Ok (Some (n, s))) = some (leaf_in st n.0).value
+value_found st (Ok None) = none
+value_found st (Err e) = none
 
 module _ (st : List ℕ) (k : List ℕ) where
   -- it is the tree's

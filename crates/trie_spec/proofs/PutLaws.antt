@@ -39,9 +39,9 @@ use Rattle.node.proofs.ChildLaws.{item_fits}
 use Rattle.node.proofs.HeaderLaws.{Fits}
 use Rattle.trie_spec.specs.Accepted.{link_to, Accepted}
 use Rattle.trie_spec.specs.Walk.{steps, step, walk, first}
-use Rattle.trie_spec.specs.Writes.{with_root, relinked, joined, Outcome, outcome, insert_in, put_near, placed, hung, forked}
-use Rattle.trie_spec.specs.declared.insert.Put.{Put}
-use Rattle.trie_spec.specs.declared.insert.Put.TheVariants.{New as Added, Replaced, Height, Full, Wrong}
+use Rattle.trie_spec.specs.Writes.{with_root, relinked, joined, Outcome, outcome, insert_in, put_near, placed, hung, forked, Put}
+use Rattle.trie_spec.specs.declared.insert.Inserted.TheVariants.{New as Added, Replaced}
+use Rattle.trie_spec.specs.declared.insert.PutError.TheVariants.{Store, Height, Full}
 use Rattle.trie_spec.specs.declared.descent.Spot.{Spot}
 use Rattle.trie_spec.specs.declared.descent.Spot.TheVariants.{Root, Under}
 use Rattle.trie_spec.specs.declared.descent.Step.{Step}
@@ -53,14 +53,16 @@ use Rattle.trie_spec.proofs.SeekLaws.{Ends, seeks}
 use Rattle.trie_spec.proofs.InsertLaws.{Wrote, x, differs, near, far, free_leaf_lem, free_branch_lem, branch_room, insert_accepted}
 use Rattle.trie_spec.proofs.AddLaws.{Adds, SiteFits, site_fits, add_grows, add_whole, add_under}
 use Rattle.trie_spec.proofs.FirstLaws.{room, first_free, first_size, first_head_lem, first_accepted, set_accepted, set_head_lem, set_size}
+use Rattle.std.specs.Prelude.{Result, Ok, Err}
+use Rattle.node.specs.declared.NotAStore.{NotAStore}
 
 -- an insertion's answer by document 01's names
 abbrev pub answer_of : Put → Answer
-answer_of Added = DONE
-answer_of Replaced = REPLACED
-answer_of Height = HEIGHT
-answer_of Full = FULL
-answer_of Wrong = STORE
+answer_of (Ok Added) = DONE
+answer_of (Ok Replaced) = REPLACED
+answer_of (Err Height) = HEIGHT
+answer_of (Err Full) = FULL
+answer_of (Err Store) = STORE
 
 -- What an insertion into a store that holds o comes to.
 pub record Inserts (st : List ℕ) (o : Option Tree) (k : List ℕ) (v : ℕ) (r : Outcome Put) : Type 0 where
@@ -115,7 +117,7 @@ module _ (st : List ℕ) (t : Tree) (acc : Accepted st (some t)) (k : List ℕ) 
   begins : insert_in st h k v ≡ put_near st h k v (link_to (root t)) (closest k t).number d
   begins = rw (some_leaves, root_link st t acc, at_closest st t acc k)
 
-  stored_is : k ≡ q → put_near st h k v (link_to (root t)) (closest k t).number d ≡ outcome Replaced (set_value st (closest k t).number v)
+  stored_is : k ≡ q → put_near st h k v (link_to (root t)) (closest k t).number d ≡ outcome (Ok Replaced) (set_value st (closest k t).number v)
   stored_is e = rw (key_read) (key_same e _ _)
 
   new_is : k ≢ q → put_near st h k v (link_to (root t)) (closest k t).number d
@@ -152,7 +154,7 @@ module _ (st : List ℕ) (t : Tree) (acc : Accepted st (some t)) (k : List ℕ) 
     abbrev cap : ℕ
     cap = h.capacity
 
-    abbrev w : Walked
+    abbrev w : Result Walked NotAStore
     w = walk st cap k (y.place + 1) steps (first (link_to (root t)))
 
     starts : (u : Tree) → StartsAt 0 u
@@ -180,13 +182,13 @@ module _ (st : List ℕ) (t : Tree) (acc : Accepted st (some t)) (k : List ℕ) 
     high m l g e = ap (λ (z : Bool). not z && leb h.limit d) (passed m g) ∙ ap (λ (z : Bool). not m && z) e
 
     -- refused
-    too_high_lem : is_grow (site y t) ≡ false → h.limit ≤ d → Inserts st (some t) k v (outcome Height st)
+    too_high_lem : is_grow (site y t) ≡ false → h.limit ≤ d → Inserts st (some t) k v (outcome (Err Height) st)
     too_high_lem g l =
-        refuse st (some t) k v Height (omega arith)
+        refuse st (some t) k v (Err Height) (omega arith)
         (answers true (eqb (length (listing t)) cap) (high false true g (le-leb h.limit d l)) refl)
 
-    no_room : too_high h.limit k (closest k t) ≡ false → cap ≤ h.leaves → Inserts st (some t) k v (outcome Full st)
-    no_room g l = refuse st (some t) k v Full (omega arith) (answers false true g (is_full l))
+    no_room : too_high h.limit k (closest k t) ≡ false → cap ≤ h.leaves → Inserts st (some t) k v (outcome (Err Full) st)
+    no_room g l = refuse st (some t) k v (Err Full) (omega arith) (answers false true g (is_full l))
 
     -- added
     module _ (room-left : h.leaves < cap) where
@@ -267,7 +269,7 @@ module _ (st : List ℕ) (t : Tree) (acc : Accepted st (some t)) (k : List ℕ) 
       taken_branch_lem : taken branch_kind st one ≡ some (b, two)
       taken_branch_lem = rw (lt-ltb b cap branch_free, lt-ltb h.branches cap few_branches, (free_branch_lem st t acc k v is_key ne room-left).2.1)
 
-      added : (st' : List ℕ) → too_high h.limit k (closest k t) ≡ false → Wrote st st' y (root t) (site y t) → Inserts st (some t) k v (outcome Added st')
+      added : (st' : List ℕ) → too_high h.limit k (closest k t) ≡ false → Wrote st st' y (root t) (site y t) → Inserts st (some t) k v (outcome (Ok Added) st')
       added st' g u = record {
         answer = answers false false g (not_full room-left);
         refused = λ z. absurd (omega arith);
@@ -311,15 +313,15 @@ module _ (st : List ℕ) (t : Tree) (acc : Accepted st (some t)) (k : List ℕ) 
           apart q = acc.branches.apart n (site_within y n t (subst (λ (z : Site). Changes z n) (sym e) refl)) (subst (λ (z : ℕ). Free branch_kind st cap z) (sym q) (free_branch_lem st t acc k v is_key ne room-left).2)
 
     -- a new key, by where it goes and by whether there is room
-    abbrev Placed : Walked → Type 0
+    abbrev Placed : Result Walked NotAStore → Type 0
     Placed u = Inserts st (some t) k v (placed st h k v d y.place y.other u)
 
-    at_grow : (n : ℕ) → n < cap → site y t ≡ grows n → Dec (h.leaves < cap) → Placed (Missing (record { 0 = n }) (new_slot y))
+    at_grow : (n : ℕ) → n < cap → site y t ≡ grows n → Dec (h.leaves < cap) → Placed (Ok (Missing (record { 0 = n }) (new_slot y)))
     at_grow n l e (yes r) = rw (lt-leb cap h.leaves r) (grow_bytes r n l e)
     at_grow n l e (no f) = rw (le-leb cap h.leaves (omega arith)) (no_room (high true (leb h.limit d) (ap is_grow e) refl) (omega arith))
 
     at_fork : (u : Step) → is_grow (site y t) ≡ false → ((r : h.leaves < cap) → d < h.limit → Inserts st (some t) k v (forked st h k v u y.place y.other))
-        → Dec (d < h.limit) → Dec (h.leaves < cap) → Placed (Reached u.child u)
+        → Dec (d < h.limit) → Dec (h.leaves < cap) → Placed (Ok (Reached u.child u))
     at_fork u g f (no l) r = rw (le-leb h.limit d (omega arith)) (too_high_lem g (omega arith))
     at_fork u g f (yes l) (yes r) = rw (lt-leb h.limit d l, lt-leb cap h.leaves r) (f r l)
     at_fork u g f (yes l) (no r) = rw (lt-leb h.limit d l, le-leb cap h.leaves (omega arith)) (no_room (high false false g (lt-leb h.limit d l)) (omega arith))

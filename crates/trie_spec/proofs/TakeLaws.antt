@@ -3,7 +3,7 @@
 use Prim.Native.Nat.{ℕ, ◌-◌, ◌≤◌, ◌<◌}
 use mathlib.Core.Path.{◌≡◌, refl, sym, ap, subst, ◌∙◌}
 use mathlib.Core.Logic.{◌≢◌, inl, inr}
-use mathlib.Core.Bool.{Bool, true}
+use mathlib.Core.Bool.{true}
 use mathlib.Core.List.{List}
 use mathlib.Core.Option.{some}
 use native.Mathlib.Omega.{arith}
@@ -31,7 +31,7 @@ use Rattle.node.proofs.ChildLaws.{item_fits}
 use Rattle.node.proofs.HeaderLaws.{Fits, head_back, length_head, mark_stays, leaf_stays, array_stays, block_in}
 use Rattle.node.proofs.RecordLaws.{LeafWritten, leaf_freed, freed_size, freed_next, leaf_arrays, ArrayWritten, child_written, child_set, removal_written, child_removed, branch_freed, children_freed, after_freed, array_leaves}
 use Rattle.trie_spec.specs.Accepted.{link_to, Accepted}
-use Rattle.trie_spec.specs.Writes.{with_root, emptied, shrunk, lifted, Outcome, outcome, remove_under}
+use Rattle.trie_spec.specs.Writes.{with_root, emptied, shrunk, lifted, Outcome, outcome, remove_under, Removed, done}
 use Rattle.trie_spec.specs.declared.descent.Spot.{Spot}
 use Rattle.trie_spec.specs.declared.descent.Spot.TheVariants.{Root, Under}
 use Rattle.trie_spec.specs.declared.descent.Step.{Step}
@@ -187,8 +187,8 @@ module _ (st : List ℕ) (cap a : ℕ) (w : Gives st cap a) where
               ∙ ap (λ z. insert s (item_to c) (entries z)) (three.others.arrays n apart ∙ leaf_arrays one n)
 
 -- What a removal from a store that holds t comes to.
-pub record Removes (st : List ℕ) (t : Tree) (k : List ℕ) (r : Outcome Bool) : Type 0 where
-  pub done : r.answer ≡ true
+pub record Removes (st : List ℕ) (t : Tree) (k : List ℕ) (r : Outcome Removed) : Type 0 where
+  pub done : r.answer ≡ done
   pub limit : (head_in r.bytes).limit ≡ (head_in st).limit
   pub size : length r.bytes ≡ length st
   pub accepted : ((i : ℕ) → i < used r.bytes → get_or r.bytes i 0 < 256) → Accepted r.bytes (remove_t k t)
@@ -227,7 +227,7 @@ module _ (st : List ℕ) (t : Tree) (acc : Accepted st (some t)) (k : List ℕ) 
     branch = f;
   }
 
-  removes : (st' : List ℕ) → Took st st' n (root t) (cut k t) → Removes st t k (outcome true st')
+  removes : (st' : List ℕ) → Took st st' n (root t) (cut k t) → Removes st t k (outcome done st')
   removes st' w = record {
     done = refl;
     limit = ap (λ (z : Header). z.limit) w.head;

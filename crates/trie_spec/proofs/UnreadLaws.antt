@@ -23,7 +23,7 @@ use Rattle.sparse_array.specs.Array.{size, entries, cleared, with_slot, without_
 use Rattle.bitmap.specs.Entries.{Entry, lookup, head, erase}
 use Rattle.sparse_array.specs.Answers.{or_else}
 use Rattle.node.specs.Layout.{start, array_at, size_at, value_at}
-use Rattle.node.specs.Child.{number_in, link_of, item_of, to_leaf, to_branch}
+use Rattle.node.specs.Child.{number_in, link_of, item_of, to_leaf, to_branch, Linked}
 use Rattle.node.specs.Header.{set_head, set_mark}
 use Rattle.node.specs.Leaf.{Leaf as LeafRecord, key_size, leaf_in, set_leaf, set_value, free_leaf}
 use Rattle.node.specs.Branch.{array_in, children_in, linked, linked_in, near_in, head_link, set_child, remove_child, two_slots, make_branch, free_branch}
@@ -33,25 +33,24 @@ use Rattle.node.specs.declared.child.Child.{Child}
 use Rattle.node.specs.declared.child.Child.TheVariants.{Leaf as LeafChild, Branch}
 use Rattle.node.specs.declared.child.BranchNo.{BranchNo}
 use Rattle.node.specs.declared.child.Link.{Link}
-use Rattle.node.specs.declared.child.Linked.{Linked}
-use Rattle.node.specs.declared.child.Linked.TheVariants.{To, Absent, Wrong as WrongLink}
 use Rattle.node.specs.declared.header.Header.{Header}
 use Rattle.node.proofs.ChildLaws.{within}
-use Rattle.trie_spec.specs.Walk.{steps, step, link_in, on_linked, on_node, walk, near, first, Within, Lies}
-use Rattle.trie_spec.specs.Find.{no_stop, on_walked, find_from, find_in}
-use Rattle.trie_spec.specs.Writes.{relinked, Outcome, outcome, on_taken, hung, joined, planted, forked, placed, put_beside, put_near, on_closest, put_under, insert_in, shrunk, lifted, remove_under}
+use Rattle.trie_spec.specs.Walk.{steps, step, link_in, on_linked, on_root, on_node, walk, near, first, Within, Lands, leaf_at}
+use Rattle.trie_spec.specs.Find.{no_stop, on_walked, find_from, find_in, Exact}
+use Rattle.trie_spec.specs.Writes.{relinked, Outcome, outcome, on_taken, hung, joined, planted, forked, placed, put_beside, put_near, on_closest, put_under, insert_in, shrunk, lifted, remove_under, Put, done, no_tree}
 use Rattle.trie_spec.specs.declared.descent.Spot.{Spot}
 use Rattle.trie_spec.specs.declared.descent.Spot.TheVariants.{Root, Under}
 use Rattle.trie_spec.specs.declared.descent.Step.{Step}
 use Rattle.trie_spec.specs.declared.descent.Walked.{Walked}
-use Rattle.trie_spec.specs.declared.descent.Walked.TheVariants.{At, Missing, Wrong}
+use Rattle.trie_spec.specs.declared.descent.Walked.TheVariants.{At, Missing}
 use Rattle.trie_spec.specs.declared.descent.Closest.{Closest}
-use Rattle.trie_spec.specs.declared.descent.Closest.TheVariants.{Leaf, Wrong as NoLeaf}
-use Rattle.trie_spec.specs.declared.find.Exact.{Exact}
-use Rattle.trie_spec.specs.declared.insert.Put.{Put}
-use Rattle.trie_spec.specs.declared.insert.Put.TheVariants.{New, Replaced, Height, Full, Wrong as NoTree}
+use Rattle.trie_spec.specs.declared.insert.Inserted.TheVariants.{New, Replaced}
+use Rattle.trie_spec.specs.declared.insert.PutError.TheVariants.{Store, Height, Full}
 use Rattle.trie_spec.proofs.WalkLaws.{linked_below}
 use Rattle.trie_spec.proofs.KeepLaws.{walk_lies, Low, near_low}
+use Rattle.std.specs.Prelude.{Result, Ok, Err, Some, None}
+use Rattle.node.specs.NotAStore.{not_a_store}
+use Rattle.node.specs.declared.NotAStore.{NotAStore}
 
 -- Both slices have the header and the first blocks, and these are the same bytes.
 pub record Alike (cap : ℕ) (st su : List ℕ) : Type 0 where
@@ -94,21 +93,21 @@ module _ {cap : ℕ} {st su : List ℕ} (a : Alike cap st su) (k : List ℕ) whe
     abbrev slot : ℕ
     slot = nibble k s.position
 
-    abbrev next : List ℕ → BranchNo → Linked → Walked
-    next sv b l = on_linked (λ m. walk sv cap k stop f (step m (Under b slot) s.at)) (Missing b slot) Wrong l
+    abbrev next : List ℕ → BranchNo → Linked → Result Walked NotAStore
+    next sv b l = on_linked (λ m. walk sv cap k stop f (step m (Under b slot) s.at)) (Ok (Missing b slot)) (Err not_a_store) l
 
     by_link : (b : BranchNo) (o : Option ℕ) (l : Linked) → linked cap o ≡ l → next su b l ≡ next st b l
-    by_link b o (To m) e = rest (step m (Under b slot) s.at) (linked_below cap o m e)
-    by_link b o Absent e = refl
-    by_link b o WrongLink e = refl
+    by_link b o (Ok (Some m)) e = rest (step m (Under b slot) s.at) (linked_below cap o m e)
+    by_link b o (Ok None) e = refl
+    by_link b o (Err r) e = refl
 
     by_child : (c : Child) → number_in c < cap
-        → on_node (λ n. At s.child s) (λ b. cond (leb stop s.position) (At s.child s) (next su b (linked_in cap slot (children_in su b.0)))) c
-        ≡ on_node (λ n. At s.child s) (λ b. cond (leb stop s.position) (At s.child s) (next st b (linked_in cap slot (children_in st b.0)))) c
+        → on_node (λ n. Ok (At s.child s)) (λ b. cond (leb stop s.position) (Ok (At s.child s)) (next su b (linked_in cap slot (children_in su b.0)))) c
+        ≡ on_node (λ n. Ok (At s.child s)) (λ b. cond (leb stop s.position) (Ok (At s.child s)) (next st b (linked_in cap slot (children_in st b.0)))) c
     by_child (LeafChild n) h = refl
     by_child (Branch b) h =
-        ap (λ (es : List Entry). cond (leb stop s.position) (At s.child s) (next su b (linked_in cap slot es))) (children_alike a b.0 h)
-        ∙ ap (λ (w : Walked). cond (leb stop s.position) (At s.child s) w) (by_link b (lookup slot (children_in st b.0)) (linked_in cap slot (children_in st b.0)) refl)
+        ap (λ (es : List Entry). cond (leb stop s.position) (Ok (At s.child s)) (next su b (linked_in cap slot es))) (children_alike a b.0 h)
+        ∙ ap (λ (w : Result Walked NotAStore). cond (leb stop s.position) (Ok (At s.child s)) w) (by_link b (lookup slot (children_in st b.0)) (linked_in cap slot (children_in st b.0)) refl)
 
   pub walk_alike : (stop f : ℕ) (s : Step) → number_in s.child < cap → walk su cap k stop f s ≡ walk st cap k stop f s
   unfolding walk
@@ -116,16 +115,16 @@ module _ {cap : ℕ} {st su : List ℕ} (a : Alike cap st su) (k : List ℕ) whe
   walk_alike stop (suc f) s h = by_child stop f s (λ m q. walk_alike stop f m q) s.child h
 
   module _ (f d : ℕ) (p : ℕ) (rest : (e : ℕ) (m : Link) → number_in m.child < cap → near su cap k f e m ≡ near st cap k f e m) where
-    abbrev on : List ℕ → Linked → Closest
-    on sv l = on_linked (λ m. near sv cap k f (d + 1) m) NoLeaf NoLeaf l
+    abbrev on : List ℕ → Linked → Result Closest NotAStore
+    on sv l = on_linked (λ m. near sv cap k f (d + 1) m) (Err not_a_store) (Err not_a_store) l
 
     near_link : (o : Option ℕ) (l : Linked) → linked cap o ≡ l → on su l ≡ on st l
-    near_link o (To m) e = rest (d + 1) m (linked_below cap o m e)
-    near_link o Absent e = refl
-    near_link o WrongLink e = refl
+    near_link o (Ok (Some m)) e = rest (d + 1) m (linked_below cap o m e)
+    near_link o (Ok None) e = refl
+    near_link o (Err r) e = refl
 
     near_child : (c : Child) → number_in c < cap
-        → on_node (λ n. Leaf n d) (λ b. on su (near_in cap (nibble k p) (children_in su b.0))) c ≡ on_node (λ n. Leaf n d) (λ b. on st (near_in cap (nibble k p) (children_in st b.0))) c
+        → on_node (λ n. Ok (leaf_at n d)) (λ b. on su (near_in cap (nibble k p) (children_in su b.0))) c ≡ on_node (λ n. Ok (leaf_at n d)) (λ b. on st (near_in cap (nibble k p) (children_in st b.0))) c
     near_child (LeafChild n) h = refl
     near_child (Branch b) h =
         ap (λ (es : List Entry). on su (near_in cap (nibble k p) es)) (children_alike a b.0 h)
@@ -137,15 +136,15 @@ module _ {cap : ℕ} {st su : List ℕ} (a : Alike cap st su) (k : List ℕ) whe
   near_alike (suc f) d l h = near_child f d l.position (λ e m q. near_alike f e m q) l.child h
 
   matched_alike : (s : Step) (c : Child) → number_in c < cap
-      → on_node (λ n. on_equal (order k (leaf_in su n.0).key) (Exact.Leaf n s) Exact.Absent) (λ b. Exact.Wrong) c
-      ≡ on_node (λ n. on_equal (order k (leaf_in st n.0).key) (Exact.Leaf n s) Exact.Absent) (λ b. Exact.Wrong) c
-  matched_alike s (LeafChild n) h = ap (λ (x : LeafRecord). on_equal (order k x.key) (Exact.Leaf n s) Exact.Absent) (leaf_alike a n.0 h)
+      → on_node (λ n. on_equal {A = Exact} (order k (leaf_in su n.0).key) (Ok (Some (n, s))) (Ok None)) (λ b. Err not_a_store) c
+      ≡ on_node (λ n. on_equal {A = Exact} (order k (leaf_in st n.0).key) (Ok (Some (n, s))) (Ok None)) (λ b. Err not_a_store) c
+  matched_alike s (LeafChild n) h = ap (λ (x : LeafRecord). on_equal {A = Exact} (order k x.key) (Ok (Some (n, s))) (Ok None)) (leaf_alike a n.0 h)
   matched_alike s (Branch b) h = refl
 
-  walked_alike : (w : Walked) → Lies cap w → on_walked su k w ≡ on_walked st k w
-  walked_alike (At c s) l = matched_alike s c (rw l.3 l.0)
-  walked_alike (Missing b s) l = refl
-  walked_alike Wrong l = refl
+  walked_alike : (w : Result Walked NotAStore) → Lands cap w → on_walked su k w ≡ on_walked st k w
+  walked_alike (Ok (At c s)) l = matched_alike s c (rw l.3 l.0)
+  walked_alike (Ok (Missing b s)) l = refl
+  walked_alike (Err e) l = refl
 
   module _ (bytes : Bytes k) where
     pub find_alike : (h : Header) → h.capacity ≡ cap → find_in su h k ≡ find_in st h k
@@ -156,13 +155,12 @@ module _ {cap : ℕ} {st su : List ℕ} (a : Alike cap st su) (k : List ℕ) whe
             ap (on_walked su k) (walk_alike no_stop steps (first m) q)
             ∙ walked_alike (walk st cap k no_stop steps (first m)) (walk_lies st cap k bytes no_stop steps (first m) q tt tt)
 
-        go : (o : Bool) (l : Linked) → link_of h.capacity h.root ≡ l
-            → cond o Exact.Absent (on_linked (λ root. find_from su h.capacity k root) Exact.Wrong Exact.Wrong l)
-            ≡ cond o Exact.Absent (on_linked (λ root. find_from st h.capacity k root) Exact.Wrong Exact.Wrong l)
+        go : (o : Bool) (l : Result Link NotAStore) → link_of h.capacity h.root ≡ l
+            → cond o (Ok None) (on_root (λ root. find_from su h.capacity k root) (Err not_a_store) l)
+            ≡ cond o (Ok None) (on_root (λ root. find_from st h.capacity k root) (Err not_a_store) l)
         go true l q = refl
-        go false (To m) q = rw e (from m (subst (λ (z : ℕ). number_in m.child < z) e (within h.capacity h.root m q)))
-        go false Absent q = refl
-        go false WrongLink q = refl
+        go false (Ok m) q = rw e (from m (subst (λ (z : ℕ). number_in m.child < z) e (within h.capacity h.root m q)))
+        go false (Err e) q = refl
 
 -- ---- what is written
 
@@ -278,11 +276,11 @@ module _ {cap : ℕ} {st su : List ℕ} (a : Alike cap st su) where
     hung_alike : (h : Header) → h.capacity ≡ cap → (spot : Spot) → Within cap spot → Agrees cap (hung st h k v spot) (hung su h k v spot)
     hung_alike h e spot w =
         by_taken leaves h
-        (λ n g. outcome New (relinked (set_leaf st n k v) g spot (to_leaf n 0)))
-        (λ n g. outcome New (relinked (set_leaf su n k v) g spot (to_leaf n 0)))
-        (outcome NoTree st) (outcome NoTree su) (leaves_alike a h e)
-        (λ l g q. agrees New (relinked_alike (leaf_set_alike a h.leaf k v) g spot (to_leaf h.leaf 0) w))
-        (agrees NoTree a)
+        (λ n g. outcome (Ok New) (relinked (set_leaf st n k v) g spot (to_leaf n 0)))
+        (λ n g. outcome (Ok New) (relinked (set_leaf su n k v) g spot (to_leaf n 0)))
+        (outcome (Err Store) st) (outcome (Err Store) su) (leaves_alike a h e)
+        (λ l g q. agrees (Ok New) (relinked_alike (leaf_set_alike a h.leaf k v) g spot (to_leaf h.leaf 0) w))
+        (agrees (Err Store) a)
 
     planted_alike : (h : Header) (n b : ℕ) (s : Step) (p r : ℕ) → b < cap → Within cap s.at → Alike cap (planted st h k v n b s p r) (planted su h k v n b s p r)
     planted_alike h n b s p r l w = relinked_alike (joined_alike (leaf_set_alike a n k v) b l (nibble k p) n r (link_in s)) h s.at (to_branch b p) w
@@ -290,31 +288,31 @@ module _ {cap : ℕ} {st su : List ℕ} (a : Alike cap st su) where
     forked_alike : (h : Header) → h.capacity ≡ cap → (s : Step) (p r : ℕ) → Within cap s.at → Agrees cap (forked st h k v s p r) (forked su h k v s p r)
     forked_alike h e s p r w =
         by_taken leaves h
-        (λ n one. on_taken (λ b two. outcome New (planted st two k v n b s p r)) (outcome NoTree st) (taken branches st one))
-        (λ n one. on_taken (λ b two. outcome New (planted su two k v n b s p r)) (outcome NoTree su) (taken branches su one))
-        (outcome NoTree st) (outcome NoTree su) (leaves_alike a h e)
+        (λ n one. on_taken (λ b two. outcome (Ok New) (planted st two k v n b s p r)) (outcome (Err Store) st) (taken branches st one))
+        (λ n one. on_taken (λ b two. outcome (Ok New) (planted su two k v n b s p r)) (outcome (Err Store) su) (taken branches su one))
+        (outcome (Err Store) st) (outcome (Err Store) su) (leaves_alike a h e)
         (λ l one q.
         by_taken branches one
-        (λ b two. outcome New (planted st two k v h.leaf b s p r))
-        (λ b two. outcome New (planted su two k v h.leaf b s p r))
-        (outcome NoTree st) (outcome NoTree su) (branches_alike a one (q ∙ e))
-        (λ m two z. agrees New (planted_alike two h.leaf one.branch s p r (omega (arith, q, e)) w))
-        (agrees NoTree a))
-        (agrees NoTree a)
+        (λ b two. outcome (Ok New) (planted st two k v h.leaf b s p r))
+        (λ b two. outcome (Ok New) (planted su two k v h.leaf b s p r))
+        (outcome (Err Store) st) (outcome (Err Store) su) (branches_alike a one (q ∙ e))
+        (λ m two z. agrees (Ok New) (planted_alike two h.leaf one.branch s p r (omega (arith, q, e)) w))
+        (agrees (Err Store) a))
+        (agrees (Err Store) a)
 
-    placed_alike : (h : Header) → h.capacity ≡ cap → (d p r : ℕ) (w : Walked) → Lies cap w → Agrees cap (placed st h k v d p r w) (placed su h k v d p r w)
-    placed_alike h e d p r (Missing b s) l = go (leb h.capacity h.leaves)
+    placed_alike : (h : Header) → h.capacity ≡ cap → (d p r : ℕ) (w : Result Walked NotAStore) → Lands cap w → Agrees cap (placed st h k v d p r w) (placed su h k v d p r w)
+    placed_alike h e d p r (Ok (Missing b s)) l = go (leb h.capacity h.leaves)
       where
-        go : (o : Bool) → Agrees cap (cond o (outcome Full st) (hung st h k v (Under b s))) (cond o (outcome Full su) (hung su h k v (Under b s)))
-        go true = agrees Full a
+        go : (o : Bool) → Agrees cap (cond o (outcome (Err Full) st) (hung st h k v (Under b s))) (cond o (outcome (Err Full) su) (hung su h k v (Under b s)))
+        go true = agrees (Err Full) a
         go false = hung_alike h e (Under b s) l
-    placed_alike h e d p r (At c s) l = go (leb h.limit d) (leb h.capacity h.leaves)
+    placed_alike h e d p r (Ok (At c s)) l = go (leb h.limit d) (leb h.capacity h.leaves)
       where
-        go : (o q : Bool) → Agrees cap (cond o (outcome Height st) (cond q (outcome Full st) (forked st h k v s p r))) (cond o (outcome Height su) (cond q (outcome Full su) (forked su h k v s p r)))
-        go true q = agrees Height a
-        go false true = agrees Full a
+        go : (o q : Bool) → Agrees cap (cond o (outcome (Err Height) st) (cond q (outcome (Err Full) st) (forked st h k v s p r))) (cond o (outcome (Err Height) su) (cond q (outcome (Err Full) su) (forked su h k v s p r)))
+        go true q = agrees (Err Height) a
+        go false true = agrees (Err Full) a
         go false false = forked_alike h e s p r l.1
-    placed_alike h e d p r Wrong l = agrees NoTree a
+    placed_alike h e d p r (Err z) l = agrees (Err Store) a
 
     module _ (bytes : Bytes k) (h : Header) (e : h.capacity ≡ cap) where
       beside_alike : (root : Link) → number_in root.child < cap → (n d : ℕ) → n < cap → Agrees cap (put_beside st h k v root n d) (put_beside su h k v root n d)
@@ -322,41 +320,40 @@ module _ {cap : ℕ} {st su : List ℕ} (a : Alike cap st su) where
           let c : ℕ = critical k (leaf_in st n).key in
           let same : walk su h.capacity k (c + 1) steps (first root) ≡ walk st h.capacity k (c + 1) steps (first root) = rw e (walk_alike a k (c + 1) steps (first root) i) in
           subst (λ (x : LeafRecord). let z = critical k x.key in Agrees cap (put_beside st h k v root n d) (placed su h k v d z (nibble x.key z) (walk su h.capacity k (z + 1) steps (first root)))) (sym (leaf_alike a n j))
-          (subst (λ (w : Walked). Agrees cap (put_beside st h k v root n d) (placed su h k v d c (nibble (leaf_in st n).key c) w)) (sym same)
+          (subst (λ (w : Result Walked NotAStore). Agrees cap (put_beside st h k v root n d) (placed su h k v d c (nibble (leaf_in st n).key c) w)) (sym same)
           (placed_alike h e d c (nibble (leaf_in st n).key c) (walk st h.capacity k (c + 1) steps (first root)) (rw e (walk_lies st cap k bytes (c + 1) steps (first root) i tt tt))))
 
       near_put_alike : (root : Link) → number_in root.child < cap → (n d : ℕ) → n < cap → Agrees cap (put_near st h k v root n d) (put_near su h k v root n d)
       near_put_alike root i n d j =
-          subst (λ (x : LeafRecord). Agrees cap (put_near st h k v root n d) (on_equal (order k x.key) (outcome Replaced (set_value su n v)) (put_beside su h k v root n d))) (sym (leaf_alike a n j))
+          subst (λ (x : LeafRecord). Agrees cap (put_near st h k v root n d) (on_equal (order k x.key) (outcome (Ok Replaced) (set_value su n v)) (put_beside su h k v root n d))) (sym (leaf_alike a n j))
           (go (ordered k (leaf_in st n).key))
         where
           go : {o : Ordering} → Ordered k (leaf_in st n).key o
-              → Agrees cap (on_equal o (outcome Replaced (set_value st n v)) (put_beside st h k v root n d)) (on_equal o (outcome Replaced (set_value su n v)) (put_beside su h k v root n d))
+              → Agrees cap (on_equal o (outcome (Ok Replaced) (set_value st n v)) (put_beside st h k v root n d)) (on_equal o (outcome (Ok Replaced) (set_value su n v)) (put_beside su h k v root n d))
           go (before q) = beside_alike root i n d j
-          go (equal q) = agrees Replaced (value_alike a n v)
+          go (equal q) = agrees (Ok Replaced) (value_alike a n v)
           go (after q) = beside_alike root i n d j
 
       under_alike : (root : Link) → number_in root.child < cap → Agrees cap (put_under st h k v root) (put_under su h k v root)
       under_alike root i =
           let same : near su h.capacity k steps 0 root ≡ near st h.capacity k steps 0 root = rw e (near_alike a k steps 0 root i) in
-          subst (λ (c : Closest). Agrees cap (put_under st h k v root) (on_closest (λ n d. put_near su h k v root n d) (outcome NoTree su) c)) (sym same)
+          subst (λ (c : Result Closest NotAStore). Agrees cap (put_under st h k v root) (on_closest (λ n d. put_near su h k v root n d) (outcome (Err Store) su) c)) (sym same)
           (go (near st h.capacity k steps 0 root) (subst (λ (c : ℕ). Low st cap k bytes (near st c k steps 0 root)) (sym e) (near_low st cap k bytes steps 0 root i)))
         where
-          go : (c : Closest) → Low st cap k bytes c
-              → Agrees cap (on_closest (λ n d. put_near st h k v root n d) (outcome NoTree st) c) (on_closest (λ n d. put_near su h k v root n d) (outcome NoTree su) c)
-          go (Leaf n d) l = near_put_alike root i n.0 d l
-          go NoLeaf l = agrees NoTree a
+          go : (c : Result Closest NotAStore) → Low st cap k bytes c
+              → Agrees cap (on_closest (λ n d. put_near st h k v root n d) (outcome (Err Store) st) c) (on_closest (λ n d. put_near su h k v root n d) (outcome (Err Store) su) c)
+          go (Ok c) l = near_put_alike root i c.leaf.0 c.depth l
+          go (Err e) l = agrees (Err Store) a
 
       pub insert_alike : Agrees cap (insert_in st h k v) (insert_in su h k v)
       insert_alike = go (eqb h.leaves 0) (link_of h.capacity h.root) refl
         where
-          go : (o : Bool) (l : Linked) → link_of h.capacity h.root ≡ l
-              → Agrees cap (cond o (hung st h k v Root) (on_linked (λ root. put_under st h k v root) (outcome NoTree st) (outcome NoTree st) l))
-              (cond o (hung su h k v Root) (on_linked (λ root. put_under su h k v root) (outcome NoTree su) (outcome NoTree su) l))
+          go : (o : Bool) (l : Result Link NotAStore) → link_of h.capacity h.root ≡ l
+              → Agrees cap (cond o (hung st h k v Root) (on_root (λ root. put_under st h k v root) (outcome (Err Store) st) l))
+              (cond o (hung su h k v Root) (on_root (λ root. put_under su h k v root) (outcome (Err Store) su) l))
           go true l q = hung_alike h e Root tt
-          go false (To m) q = under_alike m (subst (λ (z : ℕ). number_in m.child < z) e (within h.capacity h.root m q))
-          go false Absent q = agrees NoTree a
-          go false WrongLink q = agrees NoTree a
+          go false (Ok m) q = under_alike m (subst (λ (z : ℕ). number_in m.child < z) e (within h.capacity h.root m q))
+          go false (Err e) q = agrees (Err Store) a
 
 -- ---- removal
 
@@ -364,15 +361,15 @@ pub remove_alike : {cap : ℕ} {st su : List ℕ} → Alike cap st su → (h : H
     → Agrees cap (remove_under st h n at above) (remove_under su h n at above)
 remove_alike a h n Root above w u = agrees _ (head_alike (leaf_freed_alike a n h.leaf) _)
 remove_alike {cap} {st} {su} a h n (Under b s) above w u =
-    subst (λ (es : List Entry). Agrees cap (remove_under st h n (Under b s) above) (cond (eqb (length es) 2) (on_linked (λ l. outcome true (lifted su h n b.0 above l)) (outcome false su) (outcome false su) (head_link h.capacity (erase s es))) (outcome true (shrunk su h n b.0 s)))) (sym (children_alike a b.0 w.0))
+    subst (λ (es : List Entry). Agrees cap (remove_under st h n (Under b s) above) (cond (eqb (length es) 2) (on_linked (λ l. outcome done (lifted su h n b.0 above l)) (outcome no_tree su) (outcome no_tree su) (head_link h.capacity (erase s es))) (outcome done (shrunk su h n b.0 s)))) (sym (children_alike a b.0 w.0))
     (go (eqb (length (children_in st b.0)) 2) (head_link h.capacity (erase s (children_in st b.0))))
   where
     go : (o : Bool) (l : Linked)
-        → Agrees cap (cond o (on_linked (λ m. outcome true (lifted st h n b.0 above m)) (outcome false st) (outcome false st) l) (outcome true (shrunk st h n b.0 s)))
-        (cond o (on_linked (λ m. outcome true (lifted su h n b.0 above m)) (outcome false su) (outcome false su) l) (outcome true (shrunk su h n b.0 s)))
-    go true (To m) = agrees _ (relinked_alike (branch_freed_alike (leaf_freed_alike a n h.leaf) b.0 w.0 _) _ above m u)
-    go true Absent = agrees _ a
-    go true WrongLink = agrees _ a
+        → Agrees cap (cond o (on_linked (λ m. outcome done (lifted st h n b.0 above m)) (outcome no_tree st) (outcome no_tree st) l) (outcome done (shrunk st h n b.0 s)))
+        (cond o (on_linked (λ m. outcome done (lifted su h n b.0 above m)) (outcome no_tree su) (outcome no_tree su) l) (outcome done (shrunk su h n b.0 s)))
+    go true (Ok (Some m)) = agrees _ (relinked_alike (branch_freed_alike (leaf_freed_alike a n h.leaf) b.0 w.0 _) _ above m u)
+    go true (Ok None) = agrees _ a
+    go true (Err e) = agrees _ a
     go false l = agrees _ (head_alike (removed_alike (leaf_freed_alike a n h.leaf) b.0 w.0 s) _)
 
 -- ---- creation

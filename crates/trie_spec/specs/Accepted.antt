@@ -4,7 +4,7 @@
 -- the position in a link to a leaf, the root of an empty store, the count of branches, and the header's mark. How a record shows that it is free, and which
 -- one is free after it, is the layout's too: it is what "free, once" means here. Nothing is asked of bytes on which no answer hangs.
 -- Assumes nothing.
-use Rattle.std.specs.Prelude.{ℕ, ◌<◌, ◌≡◌, List, [], ◌∷◌, get_or}
+use Rattle.std.specs.Prelude.{ℕ, ◌<◌, ◌≡◌, List, [], ◌∷◌, get_or, Ok}
 use Rattle.std.proofs.Math.Option.{Option, none, some}
 use Rattle.model.specs.Numbers.{used}
 use Rattle.model.specs.Picture.{Tree, Pictured}
@@ -20,7 +20,6 @@ use Rattle.node.specs.Branch.{children_in}
 use Rattle.records.specs.Chain.{Kind, Free, leaves, branches}
 use Rattle.records.specs.Create.{no_root}
 use Rattle.node.specs.declared.child.Link.{Link}
-use Rattle.node.specs.declared.header.Head.TheVariants.{Good}
 
 -- "a child is either a leaf with its number or a branch with its number": the link to a child in the store. The layout's own: a link has a position, that of
 -- the branch, and of a leaf it is 0.
@@ -61,7 +60,7 @@ pub record Accepted (st : List ℕ) (o : Option Tree) : Type 0 where
   -- the bytes that the store uses are bytes
   pub bytes : (i : ℕ) → i < used st → get_or st i 0 < 256
   -- "the slice's capacity is the one it was created with". The layout's own: the header's mark.
-  pub head : head_of st ≡ Good (head_in st)
+  pub head : head_of st ≡ Ok (head_in st)
   -- "It holds a picture: .. a branch has 2 to 17 children; positions rise along every path; all leaves under a branch at position p agree on nibbles before p,
   -- and those under a child have that child's slot as nibble p; keys fit"
   pub held : HoldsLeft (memory_of st) o

@@ -17,14 +17,13 @@ pub struct Step {
     pub above: Spot,
 }
 
+// Where a descent ends; NotAStore stands beside it where the records are no tree, or a deeper one than a picture.
 #[derive(Clone, Copy)]
 pub enum Walked {
     // the node met, and the step to it
     At(Child, Step),
     // the branch lacks the slot
     Missing(BranchNo, u8),
-    // the records are no tree, or a deeper one than a picture
-    Wrong,
 }
 
 // The way down by the key's nibbles, as far as it goes.
@@ -34,20 +33,20 @@ pub enum Way {
     Leaf(LeafNo, usize, Step, u8),
     // the branch that lacks the slot, the slot, the branch's position, how many branches lie above it, and the highest position on the way
     Off(BranchNo, u8, u8, usize, u8),
-    // the records are no tree, or a deeper one than a picture
-    Wrong,
 }
 
 // The closest leaf, how many branches lie above it, where the way down by the key's nibbles ends, and the highest position on that way.
 #[derive(Clone, Copy)]
-pub enum Near {
-    Leaf(LeafNo, usize, Walked, u8),
-    Wrong,
+pub struct Near {
+    pub leaf: LeafNo,
+    pub depth: usize,
+    pub end: Walked,
+    pub high: u8,
 }
 
 // The closest leaf, and how many branches lie above it.
 #[derive(Clone, Copy)]
-pub enum Closest {
-    Leaf(LeafNo, usize),
-    Wrong,
+pub struct Closest {
+    pub leaf: LeafNo,
+    pub depth: usize,
 }

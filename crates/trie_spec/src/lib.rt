@@ -3,5 +3,4 @@
 #![tactic(auto)]
 
 pub mod descent;
-pub mod find;
 pub mod insert;

@@ -2,7 +2,6 @@
 #![tactic(auto)]
 
 fn main(rt: HostRuntime) {
-    let mut piece_space = [0u8; 4096];
-    let piece: &mut [u8] = &mut piece_space;
-    stream::serve(piece, rt.stdin(), rt.stdout());
+    let mut piece = [0u8; 4096];
+    stream::serve(&mut piece, rt.stdin(), rt.stdout());
 }

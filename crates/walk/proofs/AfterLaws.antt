@@ -14,12 +14,13 @@ use Rattle.node.specs.declared.child.BranchNo.{BranchNo}
 use Rattle.node.specs.declared.child.LeafNo.{LeafNo}
 use Rattle.node.specs.declared.child.Child.TheVariants.{Leaf as LeafChild, Branch}
 use Rattle.node.specs.declared.child.Link.{Link}
-use Rattle.node.specs.declared.child.Linked.{Linked}
-use Rattle.node.specs.declared.child.Linked.TheVariants.{To, Absent, Wrong as WrongLink}
 use Rattle.trie_spec.specs.Walk.{on_linked}
 use Rattle.walk.specs.Walk.{entry_in, Met, nothing_right, below, after, Sheet, sheet, is_stopped, put, puts, wrongly}
 use Rattle.walk.specs.declared.walk.Progress.{Progress}
 use Rattle.walk.proofs.SheetLaws.{puts_append, puts_stopped, puts_one, wrong_is}
+use Rattle.std.specs.Prelude.{Option, Ok, Err, Some, None}
+use Rattle.node.specs.declared.NotAStore.{NotAStore}
+use Rattle.node.specs.Child.{Linked}
 
 module _ (st : List ℕ) (cap : ℕ) (k : List ℕ) (c : ℕ) (up : Bool) (f : ℕ) (l : Link) where
   pub after_leaf : (n : LeafNo) → l.child ≡ LeafChild n → after st cap k c up f l ≡ cond up (some (entry_in st n.0) ∷ []) []
@@ -97,13 +98,13 @@ module _ (st : List ℕ) (cap : ℕ) (k : List ℕ) (c : ℕ) (up : Bool) (f : �
           by_slot : after st cap k c up f l ≡ on_linked (λ m. after st cap k c up (f - 1) m ++ below st cap f (i + 1) l) (below st cap f i l) nothing_right x
           by_slot = rw (is, slot) (after_in_lem b e nf h)
 
-          pub from_absent : (out' : List ℕ) (r : Progress) → x ≡ Absent → sheet out' r ≡ puts (below st cap f (i + 0) l) (sheet out p) → Whole out' r
-          from_absent out' r g q = whole (below st cap f i l) (sheet out' r) (by_slot ∙ rw g) (let z : i + 0 ≡ i = omega arith in q ∙ rw z)
+          pub from_absent : (o : Option Link) (out' : List ℕ) (r : Progress) → x ≡ Ok o → o ≡ None → sheet out' r ≡ puts (below st cap f (i + 0) l) (sheet out p) → Whole out' r
+          from_absent o out' r g n q = whole (below st cap f i l) (sheet out' r) (by_slot ∙ rw (g, n)) (let z : i + 0 ≡ i = omega arith in q ∙ rw z)
 
-          pub from_wrong : (r : Progress) → x ≡ WrongLink → r ≡ wrongly p → Whole out r
-          from_wrong r g q = whole nothing_right (sheet out r) (by_slot ∙ rw g) (wrong_is out p r q ∙ sym (puts_one none (sheet out p)))
+          pub from_wrong : (e : NotAStore) (r : Progress) → x ≡ Err e → r ≡ wrongly p → Whole out r
+          from_wrong e r g q = whole nothing_right (sheet out r) (by_slot ∙ rw g) (wrong_is out p r q ∙ sym (puts_one none (sheet out p)))
 
-          module _ (next : Link) (g : x ≡ To next) (out₁ : List ℕ) (r₁ : Progress) (w : sheet out₁ r₁ ≡ puts (after st cap k c up (f - 1) next) (sheet out p)) where
+          module _ (next : Link) (g : x ≡ Ok (Some next)) (out₁ : List ℕ) (r₁ : Progress) (w : sheet out₁ r₁ ≡ puts (after st cap k c up (f - 1) next) (sheet out p)) where
             both : after st cap k c up f l ≡ after st cap k c up (f - 1) next ++ below st cap f (i + 1) l
             both = by_slot ∙ rw g
 

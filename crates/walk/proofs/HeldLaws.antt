@@ -24,13 +24,13 @@ use Rattle.node.specs.Child.{item_of, link_of}
 use Rattle.node.specs.Leaf.{leaf_in, Is}
 use Rattle.node.specs.Branch.{linked_in}
 use Rattle.node.specs.declared.child.Link.{Link}
-use Rattle.node.specs.declared.child.Linked.TheVariants.{To}
 use Rattle.trie_spec.specs.Accepted.{link_to, codes, memory_of}
-use Rattle.trie_spec.specs.Walk.{on_linked}
+use Rattle.trie_spec.specs.Walk.{on_linked, on_root}
 use Rattle.trie_spec.proofs.HeldLaws.{Inside, inside_at, link_back}
 use Rattle.walk.specs.Walk.{entry_in, Met, nothing_right, kids, below, after}
 use Rattle.walk.proofs.WalkLaws.{below_leaf, below_kids}
 use Rattle.walk.proofs.AfterLaws.{after_leaf, after_past, after_in_lem}
+use Rattle.std.specs.Prelude.{Ok}
 
 -- the entries as they are met
 abbrev pub given : List Entry → List Met
@@ -86,7 +86,7 @@ module _ (st : List ℕ) (cap : ℕ) (few : cap ≤ most) where
     kids_tree end n p w h pic i f b = refl
     kids_tree (kid s t ks) n p w h pic i f b =
         ap₂ (λ (x : List Met) (y : List Met). x ++ y)
-        (ap (on_linked (λ m. below st cap f 0 m) nothing_right nothing_right) (link_back st cap few t pic.0 (inside_at st cap few here i)) ∙ below_tree t h.0 pic.0 (inside_at st cap few here i) f (suc p) pic.1 b)
+        (ap (on_root (λ m. below st cap f 0 m) nothing_right) (link_back st cap few t pic.0 (inside_at st cap few here i)) ∙ below_tree t h.0 pic.0 (inside_at st cap few here i) f (suc p) pic.1 b)
         (kids_tree ks n p w h.1 pic.3 (inside_rest n p s t ks i) f b)
         ∙ given_append (listing t) (listings ks)
 
@@ -111,7 +111,7 @@ module _ (st : List ℕ) (cap : ℕ) (few : cap ≤ most) where
       unfolding lookup place_of
       slot_skip h = let z : suc (place_of s es) + 1 ≡ suc (place_of s es + 1) = omega arith in rw (ne_eqb s r (λ q. omega arith), lt-ltb r s h, z)
 
-      slot_here : r ≡ s → link_of cap (item_of (link_to (root t))) ≡ To (link_to (root t)) → on_slot f s (e ∷ es) ≡ after st cap b c up f (link_to (root t)) ++ kids cap (λ x. below st cap f 0 x) es
+      slot_here : r ≡ s → link_of cap (item_of (link_to (root t))) ≡ Ok (link_to (root t)) → on_slot f s (e ∷ es) ≡ after st cap b c up f (link_to (root t)) ++ kids cap (λ x. below st cap f 0 x) es
       unfolding lookup place_of
       slot_here h l = rw (eq-eqb s r (sym h), l, le-ltb r s (omega arith), place_low s (suc r) ks rise (omega arith))
 
@@ -121,7 +121,7 @@ module _ (st : List ℕ) (cap : ℕ) (few : cap ≤ most) where
 
       -- what the child gives and what the others give
       one_slot : on_slot f s es ≡ given (after_k b c up s ks) → after st cap b c up f (link_to (root t)) ≡ given (after_t b c up t) → kids cap (λ x. below st cap f 0 x) es ≡ given (listings ks)
-          → kids cap (λ x. below st cap f 0 x) (e ∷ es) ≡ given (listing t ++ listings ks) → link_of cap (item_of (link_to (root t))) ≡ To (link_to (root t)) → {o : Ordering} → Said r s o
+          → kids cap (λ x. below st cap f 0 x) (e ∷ es) ≡ given (listing t ++ listings ks) → link_of cap (item_of (link_to (root t))) ≡ Ok (link_to (root t)) → {o : Ordering} → Said r s o
           → on_slot f s (e ∷ es) ≡ given (choose o (after_k b c up s ks) (after_t b c up t ++ listings ks) (listing t ++ listings ks))
       one_slot rest own others all l (lower h) = slot_skip h ∙ rest
       one_slot rest own others all l (same h) = slot_here h l ∙ ap₂ (λ (x : List Met) (y : List Met). x ++ y) own others ∙ given_append (after_t b c up t) (listings ks)

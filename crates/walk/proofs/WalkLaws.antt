@@ -10,19 +10,19 @@ use lib.ListN.{length, drop}
 use borrow.Author.Tests.{eq-eqb, ne_eqb}
 use Rattle.bitmap.specs.Entries.{Entry as Item, nth}
 use Rattle.bitmap.proofs.EntryLaws.{drop_nth}
-use Rattle.node.specs.Child.{number_in, link_of}
-use Rattle.node.specs.Branch.{children_in, linked}
+use Rattle.node.specs.Child.{number_in, link_of, Linked}
+use Rattle.node.specs.Branch.{children_in, some_link, linked}
 use Rattle.node.specs.declared.child.BranchNo.{BranchNo}
 use Rattle.node.specs.declared.child.LeafNo.{LeafNo}
 use Rattle.node.specs.declared.child.Child.TheVariants.{Leaf as LeafChild, Branch}
 use Rattle.node.specs.declared.child.Link.{Link}
-use Rattle.node.specs.declared.child.Linked.{Linked}
-use Rattle.node.specs.declared.child.Linked.TheVariants.{To}
-use Rattle.trie_spec.specs.Walk.{on_linked}
-use Rattle.trie_spec.proofs.WalkLaws.{NoLink, no_link, linked_below, leaf_below}
+use Rattle.trie_spec.specs.Walk.{on_linked, on_root}
+use Rattle.trie_spec.proofs.WalkLaws.{linked_below, leaf_below}
 use Rattle.walk.specs.Walk.{entry_in, Met, nothing_right, kids, below, Sheet, sheet, is_stopped, put, puts, wrongly}
 use Rattle.walk.specs.declared.walk.Progress.{Progress}
 use Rattle.walk.proofs.SheetLaws.{puts_append, puts_stopped, puts_one, puts_wrong, wrong_is}
+use Rattle.std.specs.Prelude.{Result, Ok, Err, Some, None}
+use Rattle.node.specs.declared.NotAStore.{NotAStore}
 
 -- ---- the list of children
 
@@ -40,9 +40,15 @@ drop_past (suc i) (e ∷ es) h = drop_past i es (omega arith)
 
 -- from a place on: what its link leads to, and what is left
 kids_from : (cap : ℕ) (g : Link → List Met) (es : List Item) (i x : ℕ) → nth i es ≡ some x
-    → kids cap g (drop i es) ≡ on_linked g nothing_right nothing_right (link_of cap x) ++ kids cap g (drop (suc i) es)
+    → kids cap g (drop i es) ≡ on_root g nothing_right (link_of cap x) ++ kids cap g (drop (suc i) es)
 unfolding kids
 kids_from cap g es i x e = let (s, d) = drop_nth i es x e in rw d
+
+-- what is not a link is nothing right
+no_link : (g : Link → List Met) (l : Linked) → ((m : Link) → l ≡ Ok (Some m) → ⊥) → on_linked g nothing_right nothing_right l ≡ nothing_right
+no_link g (Ok (Some m)) n = absurd (n m refl)
+no_link g (Ok None) n = refl
+no_link g (Err e) n = refl
 
 -- ---- below a link
 
@@ -111,29 +117,33 @@ module _ (st : List ℕ) (cap f : ℕ) (b : ℕ) (a : Sheet) (i n : ℕ) (count 
     at_place : (x : ℕ) × (nth i (children_in st b) ≡ some x)
     at_place = nth_some i (children_in st b) (omega arith)
 
-    link_is : l ≡ link_of cap at_place.0
-    link_is = is ∙ ap (linked cap) at_place.1
-
     abbrev g : Link → List Met
     g m = below st cap (f - 1) 0 m
+
+    leads : (r : Result Link NotAStore) → on_root g nothing_right r ≡ on_linked g nothing_right nothing_right (some_link r)
+    leads (Ok m) = refl
+    leads (Err e) = refl
+
+    on_link : on_root g nothing_right (link_of cap at_place.0) ≡ on_linked g nothing_right nothing_right l
+    on_link = leads (link_of cap at_place.0) ∙ ap (on_linked g nothing_right nothing_right) (sym (is ∙ ap (linked cap) at_place.1))
 
     split : rest st cap f b i (sheet out p) ≡ rest st cap f b (suc i) (puts (on_linked g nothing_right nothing_right l) (sheet out p))
     split =
         ap (λ (xs : List Met). puts xs (sheet out p)) (kids_from cap g (children_in st b) i at_place.0 at_place.1)
-        ∙ ap (λ (z : Linked). puts (on_linked g nothing_right nothing_right z ++ kids cap g (drop (suc i) (children_in st b))) (sheet out p)) (sym link_is)
+        ∙ ap (λ (z : List Met). puts (z ++ kids cap g (drop (suc i) (children_in st b))) (sheet out p)) on_link
         ∙ puts_append (on_linked g nothing_right nothing_right l) (kids cap g (drop (suc i) (children_in st b))) (sheet out p)
 
-    pub walk_lost : NoLink l → (r : Progress) → r ≡ wrongly p → sheet out r ≡ a
+    pub walk_lost : ((m : Link) → l ≡ Ok (Some m) → ⊥) → (r : Progress) → r ≡ wrongly p → sheet out r ≡ a
     walk_lost m r q =
         wrong_is out p r q
         ∙ sym (puts_wrong (kids cap g (drop (suc i) (children_in st b))) (sheet out p))
-        ∙ sym (split ∙ ap (λ (xs : List Met). rest st cap f b (suc i) (puts xs (sheet out p))) (no_link g nothing_right l m) ∙ first_wrong)
+        ∙ sym (split ∙ ap (λ (xs : List Met). rest st cap f b (suc i) (puts xs (sheet out p))) (no_link g l m) ∙ first_wrong)
         ∙ inv
       where
         first_wrong : rest st cap f b (suc i) (puts nothing_right (sheet out p)) ≡ puts (none ∷ kids cap g (drop (suc i) (children_in st b))) (sheet out p)
         first_wrong = sym (puts_append nothing_right (kids cap g (drop (suc i) (children_in st b))) (sheet out p))
 
-    module _ (next : Link) (e : l ≡ To next) (out' : List ℕ) (r : Progress) (w : sheet out' r ≡ puts (below st cap (f - 1) 0 next) (sheet out p)) where
+    module _ (next : Link) (e : l ≡ Ok (Some next)) (out' : List ℕ) (r : Progress) (w : sheet out' r ≡ puts (below st cap (f - 1) 0 next) (sheet out p)) where
       stepped : rest st cap f b (suc i) (sheet out' r) ≡ a
       stepped = sym (split ∙ ap (λ (z : Linked). rest st cap f b (suc i) (puts (on_linked g nothing_right nothing_right z) (sheet out p))) e ∙ ap (rest st cap f b (suc i)) (sym w)) ∙ inv
 
@@ -148,10 +158,10 @@ module _ (st : List ℕ) (cap : ℕ) (f i : ℕ) (l : Link) (b : BranchNo) (e : 
   pub whole_walk : (s s₀ : Sheet) → (f ≡ 0 → ⊥) → (n ≡ 0 → ⊥) → s ≡ rest st cap f b.0 i s₀ → s ≡ puts (below st cap f i l) s₀
   whole_walk s s₀ nf nn q = q ∙ ap (λ (xs : List Met). puts xs s₀) (sym (below_kids st cap f i l b e nf (λ z. nn (count ∙ z))))
 
-pub next_below : (cap : ℕ) (o : Option ℕ) (l : Linked) (next : Link) → l ≡ linked cap o → l ≡ To next → number_in next.child < cap
+pub next_below : (cap : ℕ) (o : Option ℕ) (l : Linked) (next : Link) → l ≡ linked cap o → l ≡ Ok (Some next) → number_in next.child < cap
 next_below cap o l next p e = linked_below cap o next (sym p ∙ e)
 
-pub next_leaf_below : (cap : ℕ) (o : Option ℕ) (l : Linked) (next : Link) (n : LeafNo) → l ≡ linked cap o → l ≡ To next → next.child ≡ LeafChild n → n.0 < cap
+pub next_leaf_below : (cap : ℕ) (o : Option ℕ) (l : Linked) (next : Link) (n : LeafNo) → l ≡ linked cap o → l ≡ Ok (Some next) → next.child ≡ LeafChild n → n.0 < cap
 next_leaf_below cap o l next n p e i = leaf_below cap next.child n (next_below cap o l next p e) i
 
 -- the measure falls

@@ -12,7 +12,7 @@ use Rattle.node.specs.Child.{link_of}
 use Rattle.node.specs.Leaf.{leaf_in}
 use Rattle.node.specs.Branch.{children_in, linked_in}
 use Rattle.node.specs.declared.child.Link.{Link}
-use Rattle.trie_spec.specs.Walk.{on_linked, on_node}
+use Rattle.trie_spec.specs.Walk.{on_linked, on_root, on_node}
 use Rattle.walk.specs.declared.walk.Stop.{Stop}
 use Rattle.walk.specs.declared.walk.Stop.TheVariants.{Going, Further, Wrong}
 use Rattle.walk.specs.declared.walk.Progress.{Progress}
@@ -37,7 +37,7 @@ nothing_right = none ∷ []
 -- the children of a branch, one after the other
 unfoldable pub kids : ℕ → (Link → List Met) → List Item → List Met
 kids cap g [] = []
-kids cap g (e ∷ es) = on_linked g nothing_right nothing_right (link_of cap e.1) ++ kids cap g es
+kids cap g (e ∷ es) = on_root g nothing_right (link_of cap e.1) ++ kids cap g es
 
 -- All below a link, with so many branches left for a path; of a branch, the children from a place on.
 unfoldable pub below : (st : List ℕ) (cap : ℕ) → (deep place : ℕ) → Link → List Met

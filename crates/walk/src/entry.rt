@@ -6,7 +6,7 @@ ghost use Rattle.fields.specs.Part.{splice};
 ghost use Rattle.node.specs.Layout.{Room};
 ghost use Rattle.walk.specs.Walk.{field_head, entry_in};
 
-use fields::big::{write2, write4};
+use fields::big::write;
 use fields::write1;
 use node::child::LeafNo;
 use node::layout::KEY_LIMIT;
@@ -32,10 +32,10 @@ fn put_head(out: &mut [u8], at: usize, tag: u8, size: u16)
     ensures { out.new ≡ splice out.old at (field_head tag size) }
 {
     write1(out, at, tag);
-    write2(out, at + 1, size);
+    write::<2>(out, at + 1, size as u32);
 }
 
-// The entry of a leaf goes to the start of the output. The answer is its size.
+// The entry of a leaf goes to the start of the output. The answer is its size: there is no heap, and a page is lent by the caller.
 pub fn write_entry(store: &[u8], leaf: LeafNo, out: &mut [u8]) -> usize
     requires { (Room store.now leaf.0) × (entry_limit ≤ length out.old) }
     ensures bytes { out.new ≡ splice out.old 0 (entry_bytes (entry_in store.now leaf.0)) }
@@ -45,8 +45,8 @@ pub fn write_entry(store: &[u8], leaf: LeafNo, out: &mut [u8]) -> usize
     let n = key.len();
     put_head(out, 0, KEY_TAG, n as u16);
     let e = FIELD_HEAD + n;
-    fields::copy(&mut out[FIELD_HEAD..e], key);
+    out[FIELD_HEAD..e].copy_from_slice(key);
     put_head(out, e, VALUE_TAG, VALUE_SIZE);
-    write4(out, e + FIELD_HEAD, node::leaf::value(store, leaf));
+    write::<4>(out, e + FIELD_HEAD, node::leaf::value(store, leaf));
     n + ENTRY_REST
 }

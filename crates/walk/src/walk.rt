@@ -1,6 +1,7 @@
 // The walk over what a page gives. It stops at the first entry past those that are wanted, and at the first thing that is wrong. So whatever the bytes, each way
 // down ends at an entry that is given or ends the walk, but for the one to the key that the page begins at; and a page costs no more than its entries and two
 // more, each with the branches above it.
+// That the capacity fits the store stands in each contract: docs/TRACE.md names these functions, and a type that holds both would ask more of their callers.
 ghost use Rattle.std.specs.Prelude.{◌≡◌, ◌≤◌, ◌<◌, ◌+◌, length};
 ghost use Rattle.std.proofs.Math.Option.{some};
 ghost use Rattle.node.specs.Layout.{start};
@@ -11,10 +12,11 @@ ghost use Rattle.walk.specs.Walk.{entry_in, sheet, HasRoom, is_stopped, put, put
 
 use crate::entry::write_entry;
 use lookup::keys::nibble;
+use node::NotAStore;
 use node::branch::{child_at, child_count, child_place, get_child};
-use node::child::{BranchNo, Child, LeafNo, Link, Linked};
+use node::child::{BranchNo, Child, LeafNo, Link};
 
-// Whether a page goes on.
+// Whether a page goes on. No Result: what was given before the walk met what no tree has is given all the same.
 #[derive(Clone, Copy)]
 pub enum Stop {
     Going,
@@ -111,9 +113,8 @@ pub fn emit(
                 return wrong(progress);
             }
             let mut p = progress;
-            let mut i = place;
-            while i < count {
-                let Linked::To(next) = child_at(store, b, i, capacity) else {
+            for i in place..count {
+                let Ok(Some(next)) = child_at(store, b, i, capacity) else {
                     return wrong(p);
                 };
                 let met = next.child;
@@ -128,7 +129,6 @@ pub fn emit(
                 if stopped(p) {
                     return p;
                 }
-                i += 1;
             }
             p
         }
@@ -194,7 +194,7 @@ pub fn emit_after(
             }
             let slot = nibble(key, position);
             match get_child(store, b, slot, capacity) {
-                Linked::To(next) => {
+                Ok(Some(next)) => {
                     let p = emit_after(
                         store,
                         capacity,
@@ -211,8 +211,8 @@ pub fn emit_after(
                     }
                     emit_from(store, capacity, link, b, slot, 1, deep, out, p)
                 }
-                Linked::Absent => emit_from(store, capacity, link, b, slot, 0, deep, out, progress),
-                Linked::Wrong => wrong(progress),
+                Ok(None) => emit_from(store, capacity, link, b, slot, 0, deep, out, progress),
+                Err(NotAStore) => wrong(progress),
             }
         }
     }

@@ -1,9 +1,6 @@
--- `sparse_array::head` meets its contract: an empty array has no lowest slot; else its item stands at place 0. Assumes nothing.
-use Rattle.sparse_array.proofs.Contracts.{head_none, head_first}
+-- `sparse_array::head` meets its contract: the item at place 0 is that of the lowest slot. Assumes nothing.
+use Rattle.sparse_array.proofs.Contracts.{head_is}
 use Rattle.sparse_array.proofs.head.Goals as goal
 
-pub returns-then-count-eq0 : goal.returns-then-count-eq0
-returns-then-count-eq0 c = search head_none
-
 pub returns : goal.returns
-returns c = search head_first
+returns c = search head_is

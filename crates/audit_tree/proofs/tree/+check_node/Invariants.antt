@@ -2,10 +2,8 @@
 -- the slots that are left, at the present tally, is the check of all of them from the start.
 -- Assumes nothing.
 use mathlib.Core.Path.{◌≡◌}
-use Rattle.model.specs.Nibble.{slot_count}
 use Rattle.audit_tree.specs.Walk.{none_yet, Sound}
 use Rattle.audit_tree.proofs.NodeLaws.{rest}
-use Prim.Native.Nat.{◌-◌}
 use Rattle.audit_tree.proofs.tree.+check_node.Given as goal
 
 abbrev pub decreases-check_node : goal.decreases-check_node
@@ -13,6 +11,3 @@ decreases-check_node l = l.left
 
 abbrev pub invariant-loop-slot : goal.invariant-loop-slot
 invariant-loop-slot l = Sound l.capacity l.budget l.t × (rest l.store l.capacity l.left l.p l.budget l.b.0 l.slot l.t ≡ rest l.store l.capacity l.left l.p l.budget l.b.0 0 none_yet)
-
-abbrev pub decreases-loop-slot : goal.decreases-loop-slot
-decreases-loop-slot l = slot_count - l.slot

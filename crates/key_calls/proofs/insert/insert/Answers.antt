@@ -1,18 +1,22 @@
--- `key_calls::insert::insert` meets its contract: by the three ways out: a wrong header, a key that is too long, and what the trie's insertion says. Assumes nothing.
+-- `key_calls::insert::insert` meets its promise: by what the trie's insertion answers past the header's test and the key's. Assumes nothing.
+use mathlib.Core.Path.{◌≡◌, sym, ap}
+use Rattle.index_spec.specs.Replies.{inserted_of}
 use Rattle.index_spec.proofs.HeadLaws.{blocks, blocks_few}
-use Rattle.index_spec.proofs.CallLaws.{insert_bad, insert_long, insert_done}
-use Rattle.index_spec.proofs.WayLaws.{insert_is_bad, insert_is_long, insert_is_done}
+use Rattle.index_spec.proofs.CallLaws.{insert_done}
 use borrow.Author.Rules.{rules}
 use Rattle.key_calls.proofs.insert.insert.Goals as goal
-
-pub returns-in_default : goal.returns-in_default
-returns-in_default c = record { promise = search (insert_bad, rules); is = search (insert_is_bad, rules) }
-
-pub returns-then-key-gt-KEY_LIMIT : goal.returns-then-key-gt-KEY_LIMIT
-returns-then-key-gt-KEY_LIMIT c = record { promise = search (insert_long, rules); is = search (insert_is_long, rules) }
 
 pub insert-requires : goal.insert-requires
 insert-requires c = search (blocks, blocks_few, rules)
 
-pub returns : goal.returns
-returns c = record { promise = search (insert_done, rules); is = search (insert_is_done, rules) }
+pub returns-in_err-inserted-clause-promise : goal.returns-in_err-inserted-clause-promise
+returns-in_err-inserted-clause-promise c =
+    let n : c.from_residual-in_err-inserted.result ≡ inserted_of c.insert.result = rw c.in_err-inserted.was (search rules) in
+    let g = c.in_ok-h.was in
+    search (insert_done, rules)
+
+pub returns-clause-promise : goal.returns-clause-promise
+returns-clause-promise c =
+    let n = ap inserted_of (sym c.in_ok-inserted.was) in
+    let g = c.in_ok-h.was in
+    search (insert_done, rules)

@@ -1,12 +1,12 @@
-use borrow.Author.Rules.{rules}
-use Rattle.line.proofs.ReadLaws.{space_here, space_on, space_end}
+use Rattle.std.proofs.Common.{◌≡◌, ℕ, rules, tests}
+use lib.Dec.{eqb}
+use Rattle.std.specs.List.{position}
+use Rattle.std.proofs.lemmas.Iterator.{YieldsList-from_slice}
+use Rattle.std.proofs.lemmas.Iterator.Search.{position_from_yields_List}
+use Rattle.line.proofs.ReadLaws.{first_found}
 use Rattle.line.proofs.reading.first_space.Goals as goal
 
-pub returns-then-s-i-eq32 : goal.returns-then-s-i-eq32
-returns-then-s-i-eq32 c = search (space_here, rules)
-
-pub loop-i-preserved : goal.loop-i-preserved
-loop-i-preserved c = search (space_on, rules)
-
 pub returns : goal.returns
-returns c = search (space_end, rules)
+returns c =
+    let e : c.position.result ≡ position (λ (x : ℕ). eqb x 32) c.args.s.now = position_from_yields_List (λ (x : ℕ). eqb x 32) _ _ c.position.result c.position.ensures.ran (YieldsList-from_slice _ c.iter.ensures.rest) (λ x b q k. search (rules, tests)) in
+    first_found c.args.s.now e

@@ -1,6 +1,5 @@
--- `line::reading::parse` meets its contract. Assumes nothing.
-use Rattle.line.proofs.ParseLaws.{line_long, line_short}
 use borrow.Author.Rules.{rules}
+use Rattle.line.proofs.ParseLaws.{line_long, line_short}
 use Rattle.line.proofs.reading.parse.Goals as goal
 
 pub returns-then-line-gt-LINE_LIMIT : goal.returns-then-line-gt-LINE_LIMIT

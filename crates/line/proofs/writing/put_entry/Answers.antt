@@ -1,5 +1,5 @@
 -- `line::writing::put_entry` meets its contract. Assumes nothing.
-use Rattle.line.proofs.WriteLaws.{entry_space, entry_part, entry_lent, entry_place, entry_next, entry_kept, entry_end, entry_whole}
+use Rattle.line.proofs.WriteLaws.{entry_space, entry_part, entry_lent, entry_end, entry_whole}
 use borrow.Author.Rules.{rules}
 use Rattle.line.proofs.writing.put_entry.Goals as goal
 
@@ -15,17 +15,8 @@ slice_bounds-put_number-start c = search (entry_part, rules)
 pub put_number-d-requires : goal.put_number-d-requires
 put_number-d-requires c = search (entry_lent, rules)
 
-pub overflow_add-e : goal.overflow_add-e
-overflow_add-e c = search (entry_place, rules)
-
 pub bounds-out-e : goal.bounds-out-e
 bounds-out-e c = search (entry_end, rules)
-
-pub overflow_add-result : goal.overflow_add-result
-overflow_add-result c = search (entry_next, rules)
-
-pub shape_of-out : goal.shape_of-out
-shape_of-out c = search (entry_kept, rules)
 
 pub returns : goal.returns
 returns c = search (entry_whole, rules)

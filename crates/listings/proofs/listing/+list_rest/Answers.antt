@@ -10,24 +10,24 @@ returns-then-turns-eq0 t c = search (rest_none, rules)
 pub slice_bounds-next_page-end-2 : goal.slice_bounds-next_page-end-2
 slice_bounds-next_page-end-2 t c = simp length-take (search rules)
 
-pub list_rest-m-requires : goal.list_rest-m-requires
-list_rest-m-requires t c =
+pub list_rest-requires : goal.list_rest-requires
+list_rest-requires t c =
     let pre = c.requires in
     let kept = c.show-s.auto in
     let fetch = c.next_page-paged.auto in (
       search (c.decreases, c.if-turns-eq0.false, rules),
-      (c.show-s.ensures.fits, search (pre, kept, fetch, rules), search (pre, kept, fetch, rules), simp (length-take, length-drop) (search (pre, kept, fetch, rules))),
+      (rw c.in-Some.is at c.show-s.ensures.fits, search (pre, kept, fetch, rules), search (pre, kept, fetch, rules), simp (length-take, length-drop) (search (pre, kept, fetch, rules))),
     )
 
 pub overflow_add-result : goal.overflow_add-result
 overflow_add-result t c =
     let pre = c.requires in
-    list_sum _ _ _ _ _ c.show-s.ensures _ _ _ _ _ _ _ c.list_rest-m.ensures pre.3
+    list_sum _ _ _ _ _ c.show-s.ensures _ _ _ _ _ _ _ c.list_rest.ensures pre.3
 
-pub returns-then-s : goal.returns-then-s
-returns-then-s t c =
+pub returns-in-None : goal.returns-in-None
+returns-in-None t c = search (list_last, rules)
+
+pub returns-in-Some : goal.returns-in-Some
+returns-in-Some t c =
     let pre = c.requires in
-    list_more _ _ _ _ _ _ pre.0 _ _ _ c.next_page-paged.ensures.promise pre.2 _ _ _ _ c.show-s.ensures c.if-s.true c.if-turns-eq0.false _ _ c.list_rest-m.ensures
-
-pub returns : goal.returns
-returns t c = search (list_last, rules)
+    list_more _ _ _ _ _ _ pre.0 _ _ _ c.next_page-paged.ensures.promise pre.2 _ _ _ _ c.show-s.ensures c.in-Some.is c.if-turns-eq0.false _ _ c.list_rest.ensures

@@ -3,8 +3,8 @@ use borrow.Author.Rules.{rules}
 use Rattle.listings.proofs.RestLaws.{all_last, all_more}
 use Rattle.listings.proofs.listing.list_all.Goals as goal
 
-pub returns-then-s : goal.returns-then-s
-returns-then-s c = all_more _ _ _ _ _ _ c.first_page-paged.ensures.promise (search rules) _ _ _ _ c.show-s.ensures c.if-s.true _ _ c.list_rest-m.ensures
+pub returns-in-None : goal.returns-in-None
+returns-in-None c = all_last _ _ _ _ _ _ c.first_page-paged.ensures.promise (search rules) _ _ _ _ c.show-s.ensures c.in-None.is
 
-pub returns : goal.returns
-returns c = all_last _ _ _ _ _ _ c.first_page-paged.ensures.promise (search rules) _ _ _ _ c.show-s.ensures c.if-s.false
+pub returns-in-Some : goal.returns-in-Some
+returns-in-Some c = all_more _ _ _ _ _ _ c.first_page-paged.ensures.promise (search rules) _ _ _ _ c.show-s.ensures c.in-Some.is _ _ c.list_rest.ensures

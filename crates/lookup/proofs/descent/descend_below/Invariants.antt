@@ -2,11 +2,11 @@
 use mathlib.Core.Path.{◌≡◌}
 use Prim.Native.Nat.{◌≤◌, ◌<◌}
 use Rattle.node.specs.Child.{to_branch}
-use Rattle.trie_spec.specs.Walk.{steps, step, walk, Within}
+use Rattle.trie_spec.specs.Walk.{steps, step, first, walk, Within}
 use Rattle.lookup.proofs.descent.descend_below.Given as goal
 
 abbrev pub invariant-loop-left : goal.invariant-loop-left
-invariant-loop-left l = (l.left ≤ steps) × (l.number < l.capacity) × (l.position < 256) × Within l.capacity l.at × Within l.capacity l.above × (walk l.store l.capacity l.key l.stop l.left (step (to_branch l.number l.position) l.at l.above) ≡ walk l.store l.capacity l.key l.stop l.initial.left (step (to_branch l.initial.number l.initial.position) l.initial.at l.initial.above))
+invariant-loop-left l = (l.left ≤ steps) × (l.number < l.capacity) × (l.position < 256) × Within l.capacity l.at × Within l.capacity l.above × (walk l.store l.capacity l.key l.stop l.left (step (to_branch l.number l.position) l.at l.above) ≡ walk l.store l.capacity l.key l.stop steps (first (to_branch l.fn.branch.0 l.fn.place)))
 
 abbrev pub decreases-loop-left : goal.decreases-loop-left
 decreases-loop-left l = l.left

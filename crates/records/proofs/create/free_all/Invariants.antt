@@ -2,11 +2,7 @@
 use Rattle.records.specs.Create.{freed_below}
 use mathlib.Core.Path.{◌≡◌}
 use lib.ListN.{length}
-use Prim.Native.Nat.{◌≤◌, ◌-◌}
 use Rattle.records.proofs.create.free_all.Given as goal
 
 abbrev pub invariant-loop-r : goal.invariant-loop-r
-invariant-loop-r l = (l.r ≤ l.capacity) × (length l.store ≡ length l.initial.store) × (l.store ≡ freed_below l.capacity l.r l.initial.store)
-
-abbrev pub decreases-loop-r : goal.decreases-loop-r
-decreases-loop-r l = l.capacity - l.r
+invariant-loop-r l = (length l.store ≡ length l.initial.store) × (l.store ≡ freed_below l.capacity l.r l.initial.store)

@@ -1,11 +1,7 @@
--- `store_calls::is_empty::is_empty` meets its contract: by the two answers of the header's test. Assumes nothing.
-use Rattle.index_spec.proofs.Contracts.{empty_good, empty_bad}
-use Rattle.index_spec.proofs.WayLaws.{empty_is_bad, empty_is_done}
-use borrow.Author.Rules.{rules}
+-- `store_calls::is_empty::is_empty` meets its promise: by the header's count of leaves. Assumes nothing.
+use mathlib.Core.Path.{refl}
+use Rattle.index_spec.proofs.Contracts.{empty_good}
 use Rattle.store_calls.proofs.is_empty.is_empty.Goals as goal
 
-pub returns-in_default : goal.returns-in_default
-returns-in_default c = record { promise = search (empty_bad, rules); is = search (empty_is_bad, rules) }
-
-pub returns : goal.returns
-returns c = record { promise = search (empty_good, rules); is = search (empty_is_done, rules) }
+pub returns-clause-promise : goal.returns-clause-promise
+returns-clause-promise c = empty_good _ _ _ _ c.read_head.ensures c.in_ok-h.was refl

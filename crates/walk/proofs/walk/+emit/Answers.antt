@@ -1,6 +1,8 @@
 -- The proof of the cycle of calls {emit}. The measure is the number of branches that a path may still have. The loop's invariant is an equation: what the children
 -- that are left do to the page as it is, is what all of them do to it as it was.
 -- Assumes nothing.
+use mathlib.Core.Path.{ap, ◌∙◌}
+use Rattle.std.specs.Prelude.{Ok}
 use borrow.Author.Rules.{rules}
 use Rattle.trie_spec.proofs.WalkLaws.{branch_room, leaf_below}
 use Rattle.walk.proofs.SheetLaws.{room_wrong, moved, room_moved}
@@ -42,13 +44,13 @@ returns-then-stopped t c =
       | in-Leaf-met w ↦ record {
         is = whole_walk _ _ _ _ _ _ c.in-Branch.is _ c.child_count-count.ensures _ _ c.if-deep-eq0.false c.if-count-eq0.false
             (walk_stopped _ _ _ _ _ _ _ c.child_count-count.ensures _ _ c.loop-i.invariant.2 c.loop-i-test.true _ c.child_at.ensures
-            _ c.in-To.is _ _ (emit_leaf _ _ _ _ _ _ _ _ _ _ w.in-Leaf-met.is (moved _ _ _ _ _ w.out-is w.p-is w.give-p.ensures.is)) _ c.stopped.ensures c.if-stopped.true);
+            _ (c.in-Ok-Some.is ∙ ap Ok c.in-Ok-Some.field-0-is) _ _ (emit_leaf _ _ _ _ _ _ _ _ _ _ w.in-Leaf-met.is (moved _ _ _ _ _ w.out-is w.p-is w.give-p.ensures.is)) _ c.stopped.ensures c.if-stopped.true);
         room = room_moved _ _ _ _ w.out-is w.p-is w.give-p.ensures.room;
       }
       | in-Branch-met w ↦ record {
         is = whole_walk _ _ _ _ _ _ c.in-Branch.is _ c.child_count-count.ensures _ _ c.if-deep-eq0.false c.if-count-eq0.false
             (walk_stopped _ _ _ _ _ _ _ c.child_count-count.ensures _ _ c.loop-i.invariant.2 c.loop-i-test.true _ c.child_at.ensures
-            _ c.in-To.is _ _ (moved _ _ _ _ _ w.out-is w.p-is w.emit-p.ensures.is) _ c.stopped.ensures c.if-stopped.true);
+            _ (c.in-Ok-Some.is ∙ ap Ok c.in-Ok-Some.field-0-is) _ _ (moved _ _ _ _ _ w.out-is w.p-is w.emit-p.ensures.is) _ c.stopped.ensures c.if-stopped.true);
         room = room_moved _ _ _ _ w.out-is w.p-is w.emit-p.ensures.room;
       }
     ]
@@ -60,13 +62,13 @@ loop-i-preserved t c =
         room_moved _ _ _ _ w.out-is w.p-is w.give-p.ensures.room,
         search rules,
         walk_next _ _ _ _ _ _ _ c.child_count-count.ensures _ _ c.loop-i.invariant.2 c.loop-i-test.true _ c.child_at.ensures
-            _ c.in-To.is _ _ (emit_leaf _ _ _ _ _ _ _ _ _ _ w.in-Leaf-met.is (moved _ _ _ _ _ w.out-is w.p-is w.give-p.ensures.is)),
+            _ (c.in-Ok-Some.is ∙ ap Ok c.in-Ok-Some.field-0-is) _ _ (emit_leaf _ _ _ _ _ _ _ _ _ _ w.in-Leaf-met.is (moved _ _ _ _ _ w.out-is w.p-is w.give-p.ensures.is)),
       )
       | in-Branch-met w ↦ (
         room_moved _ _ _ _ w.out-is w.p-is w.emit-p.ensures.room,
         search rules,
         walk_next _ _ _ _ _ _ _ c.child_count-count.ensures _ _ c.loop-i.invariant.2 c.loop-i-test.true _ c.child_at.ensures
-            _ c.in-To.is _ _ (moved _ _ _ _ _ w.out-is w.p-is w.emit-p.ensures.is),
+            _ (c.in-Ok-Some.is ∙ ap Ok c.in-Ok-Some.field-0-is) _ _ (moved _ _ _ _ _ w.out-is w.p-is w.emit-p.ensures.is),
       )
     ]
 

@@ -5,14 +5,10 @@ use mathlib.Core.Path.{◌≡◌}
 use lib.ListN.{length}
 use Rattle.walk.specs.Walk.{sheet, HasRoom}
 use Rattle.walk.proofs.WalkLaws.{rest}
-use Prim.Native.Nat.{◌-◌}
 use Rattle.walk.proofs.walk.+emit.Given as goal
 
 abbrev pub decreases-emit : goal.decreases-emit
 decreases-emit l = l.deep
 
 abbrev pub invariant-loop-i : goal.invariant-loop-i
-invariant-loop-i l = HasRoom l.out l.p × (length l.out ≡ length l.initial.out) × (rest l.store l.capacity l.deep l.b.0 l.i (sheet l.out l.p) ≡ rest l.store l.capacity l.deep l.b.0 l.place (sheet l.initial.out l.initial.p))
-
-abbrev pub decreases-loop-i : goal.decreases-loop-i
-decreases-loop-i l = l.count - l.i
+invariant-loop-i l = HasRoom l.out l.p × (length l.out ≡ length l.initial.out) × (rest l.store l.capacity l.deep l.b.0 l.i (sheet l.out l.p) ≡ rest l.store l.capacity l.deep l.b.0 l.fn.place (sheet l.initial.out l.initial.p))

@@ -1,4 +1,6 @@
 -- The proof of the cycle of calls {emit_after}. The measure is the number of branches that a path may still have. Assumes nothing.
+use mathlib.Core.Path.{ap, ◌∙◌}
+use Rattle.std.specs.Prelude.{Ok}
 use borrow.Author.Rules.{rules}
 use Rattle.trie_spec.proofs.WalkLaws.{branch_room, branch_below, leaf_below, link_below, slot_fits}
 use Rattle.walk.proofs.SheetLaws.{room_wrong}
@@ -29,7 +31,7 @@ emit_after-p-requires t c = (search (left_falls, rules), (search rules, search (
 
 pub returns-then-stopped : goal.returns-then-stopped
 returns-then-stopped t c = record {
-  is = from_stopped _ _ _ _ _ _ _ _ _ _ c.in-Branch.is c.if-deep-eq0.false c.if-critical-position.false _ c.nibble-slot.ensures.value _ c.get_child.ensures _ c.in-To.is _ _ c.emit_after-p.ensures.is _ c.stopped.ensures c.if-stopped.true;
+  is = from_stopped _ _ _ _ _ _ _ _ _ _ c.in-Branch.is c.if-deep-eq0.false c.if-critical-position.false _ c.nibble-slot.ensures.value _ c.get_child.ensures _ (c.in-Ok-Some.is ∙ ap Ok c.in-Ok-Some.field-0-is) _ _ c.emit_after-p.ensures.is _ c.stopped.ensures c.if-stopped.true;
   room = c.emit_after-p.ensures.room;
 }
 
@@ -37,20 +39,20 @@ pub emit_from-requires : goal.emit_from-requires
 emit_from-requires t c =
     (c.requires.0, c.requires.1, branch_below _ _ _ c.requires.1 c.in-Branch.is, slot_fits _ c.nibble-slot.ensures.slot, c.emit_after-p.ensures.room)
 
-pub emit_from-requires-in-Absent : goal.emit_from-requires-in-Absent
-emit_from-requires-in-Absent t c = search (branch_below, slot_fits, rules)
+pub emit_from-requires-in-Ok-None : goal.emit_from-requires-in-Ok-None
+emit_from-requires-in-Ok-None t c = search (branch_below, slot_fits, rules)
 
 pub returns-else-up : goal.returns-else-up
 returns-else-up t c = record { is = search (from_leaf_before, rules); room = search rules }
 
 pub returns-else-stopped : goal.returns-else-stopped
 returns-else-stopped t c = record {
-  is = from_both _ _ _ _ _ _ _ _ _ _ c.in-Branch.is c.if-deep-eq0.false c.if-critical-position.false _ c.nibble-slot.ensures.value _ c.get_child.ensures _ c.in-To.is _ _ c.emit_after-p.ensures.is _ _ c.emit_from.ensures.is;
+  is = from_both _ _ _ _ _ _ _ _ _ _ c.in-Branch.is c.if-deep-eq0.false c.if-critical-position.false _ c.nibble-slot.ensures.value _ c.get_child.ensures _ (c.in-Ok-Some.is ∙ ap Ok c.in-Ok-Some.field-0-is) _ _ c.emit_after-p.ensures.is _ _ c.emit_from.ensures.is;
   room = c.emit_from.ensures.room;
 }
 
-pub returns-in-Absent : goal.returns-in-Absent
-returns-in-Absent t c = record { is = search (from_absent, rules); room = search rules }
+pub returns-in-Ok-None : goal.returns-in-Ok-None
+returns-in-Ok-None t c = record { is = search (from_absent, rules); room = search rules }
 
-pub returns-in-Wrong : goal.returns-in-Wrong
-returns-in-Wrong t c = record { is = search (from_wrong, rules); room = search (room_wrong, rules) }
+pub returns-in-Err : goal.returns-in-Err
+returns-in-Err t c = record { is = search (from_wrong, rules); room = search (room_wrong, rules) }

@@ -1,7 +1,0 @@
--- `records::chain::free_leaf` meets its contract: two writes. Assumes nothing.
-use Rattle.records.proofs.Contracts.{leaf_freed}
-use borrow.Author.Rules.{rules}
-use Rattle.records.proofs.chain.free_leaf.Goals as goal
-
-pub returns : goal.returns
-returns c = search (leaf_freed, rules)

@@ -1,7 +1,0 @@
--- `records::chain::is_free_leaf` meets its contract: the mark of a free leaf is its length byte. Assumes nothing.
-use Rattle.records.proofs.Contracts.{leaf_free}
-use borrow.Author.Rules.{rules}
-use Rattle.records.proofs.chain.is_free_leaf.Goals as goal
-
-pub returns : goal.returns
-returns c = search (leaf_free, rules)
