@@ -102,7 +102,7 @@ def twins():
             text = re.sub(r"\bensures\b.*?\}(?= )|\brequires\b.*?\}(?= )", "", text)
             plain = re.sub(r"leaf|branch|leaves|branches", "record", text, flags=re.I)
             shape = re.sub(r"\b[a-z_]\w*\b", "x", re.sub(r"\d+", "0", re.sub(r"\b[A-Z]\w*\b", "T", plain)))
-            if len(body) >= 3:
+            if len(body) >= 2:
                 seen[re.sub(r"\s+", " ", shape)].append((path, at, name))
             stem = re.sub(r"leaf|leaves|branch(es)?", "record", re.sub(r"\d", "", name))
             if stem != name and crate in ("fields", "records", "audit"):

@@ -250,7 +250,3 @@ accepts_accepted st f e = go (head_of st) refl e
 pub accepted_accepts : (st : List ℕ) (o : Option Tree) → Accepted st o → accepts_in st ≡ true
 unfolding accepts_in
 accepted_accepts st o a = rw a.head (told_records st (good_right st (head_in st) a.head) o a)
-
--- STORE is not done.
-pub not_done : {A : Type 0} {e : NotAStore} {u : Unit {0}} → ◌≡◌ {A = Result (Unit {0}) NotAStore} (Err e) (Ok u) → A
-not_done e = absurd (let z : ◌≡◌ {A = ℕ} 0 1 = cc in omega arith)

@@ -8,6 +8,7 @@ use node::header::Header;
 use node::layout::LAST;
 use records::chain::Record;
 
+#[tactic(auto, using(audit_tree::proofs::Contracts::chain_out, audit_tree::proofs::Contracts::chain_end))]
 pub fn chain_free<R: Record>(store: &[u8], h: Header) -> bool
     requires { start h.capacity ≤ length store.now }
     ensures { result ≡ kept_right R.kind store.now h }

@@ -33,6 +33,7 @@ fn records_right(store: &[u8], h: Header) -> bool
 }
 
 // Whether the store is accepted, by its bytes.
+#[tactic(auto, using(audit_tree::proofs::Contracts::head_bad, audit_tree::proofs::Contracts::head_room, audit_tree::proofs::Contracts::head_good))]
 fn accepts(store: &[u8]) -> bool
     ensures { result ≡ accepts_in store.now }
 {
@@ -43,6 +44,7 @@ fn accepts(store: &[u8]) -> bool
 }
 
 // "The check answers done exactly for these and STORE for all others".
+#[tactic(auto, using(crate::proofs::Theorem::accepts_accepted))]
 pub fn check(store: &[u8]) -> Result<(), NotAStore>
     ensures sound { result ≡ Ok tt → (o : Option Tree) × Accepted store.now o }
     ensures complete { (o : Option Tree) → Accepted store.now o → result ≡ Ok tt }

@@ -1,6 +1,7 @@
 // The walk over the tree of records. A branch compares the first leaf of each child with the first leaf of all: the other leaves of a child agree with its
 // first one past the branch's position, by the child's own check. No mark is kept of the records met: in a picture none is reached twice.
-// That the capacity fits the store stands in each contract: docs/TRACE.md names these functions, and a type that holds both would ask more of their callers.
+// That the capacity fits the store stands in each contract: `tree_right`, which docs/TRACE.md names, takes any store and number that fit, and a type with that
+// invariant would ask more of its callers; the private functions take what it has.
 ghost use Rattle.std.specs.Prelude.{◌≡◌, ◌-◌, ◌≤◌, ◌<◌, length};
 ghost use Rattle.node.specs.Layout.{start};
 ghost use Rattle.node.specs.Child.{number_in};
@@ -128,9 +129,8 @@ fn check_node(
     ensures is { result ≡ seen store.now capacity left low budget link }
     ensures modest { Modest capacity budget result }
 {
-    let child = link.child;
     let p = link.position as usize;
-    match child {
+    match link.child {
         Child::Leaf(n) => check_leaf(store, capacity, n, p, budget),
         Child::Branch(b) => {
             if left == 0 || p < low {

@@ -15,6 +15,7 @@ ghost use Rattle.numbers.specs.Handed.{bare, valued, told, paged, mode_named, re
 use numbers::numbers::{found_empty, found_page, found_value, insert_number, mode_named, number};
 
 // A new, empty store in the bytes lent.
+#[tactic(auto, using(crate::proofs::HandedLaws::create_promise, crate::proofs::HandedLaws::create_is))]
 #[unsafe(no_mangle)]
 pub extern "C" fn ponybollard_create(store: &mut [u8], limit: u16) -> u32
     ensures promise { Create layout limit store.old store.new (bare result) }
@@ -24,6 +25,7 @@ pub extern "C" fn ponybollard_create(store: &mut [u8], limit: u16) -> u32
 }
 
 // Whether the bytes are a store that the calls keep.
+#[tactic(auto, using(crate::proofs::HandedLaws::check_promise))]
 #[unsafe(no_mangle)]
 pub extern "C" fn ponybollard_check(store: &[u8]) -> u32
     ensures { Check layout store.now (bare result) }
@@ -32,6 +34,7 @@ pub extern "C" fn ponybollard_check(store: &[u8]) -> u32
 }
 
 // Whether the store has no key.
+#[tactic(auto, using(crate::proofs::HandedLaws::empty_promise, crate::proofs::HandedLaws::empty_is))]
 #[unsafe(no_mangle)]
 pub extern "C" fn ponybollard_is_empty(store: &[u8], empty: &mut bool) -> u32
     ensures promise { IsEmpty layout store.now (told result empty.new) }
@@ -43,6 +46,7 @@ pub extern "C" fn ponybollard_is_empty(store: &[u8], empty: &mut bool) -> u32
 }
 
 // Another height limit.
+#[tactic(auto, using(crate::proofs::HandedLaws::limit_promise, crate::proofs::HandedLaws::limit_is))]
 #[unsafe(no_mangle)]
 pub extern "C" fn ponybollard_set_limit(store: &mut [u8], limit: u16) -> u32
     ensures promise { SetLimit layout limit store.old store.new (bare result) }
@@ -52,6 +56,7 @@ pub extern "C" fn ponybollard_set_limit(store: &mut [u8], limit: u16) -> u32
 }
 
 // A key goes in with its value; a stored key gets the new value.
+#[tactic(auto, using(crate::proofs::HandedLaws::insert_promise, crate::proofs::HandedLaws::insert_is))]
 #[unsafe(no_mangle)]
 pub extern "C" fn ponybollard_insert(store: &mut [u8], key: &[u8], value: u32) -> u32
     ensures promise { Insert layout key.now value store.old store.new (bare result) }
@@ -61,6 +66,7 @@ pub extern "C" fn ponybollard_insert(store: &mut [u8], key: &[u8], value: u32) -
 }
 
 // The value of a stored key.
+#[tactic(auto, using(crate::proofs::HandedLaws::get_promise, crate::proofs::HandedLaws::get_is))]
 #[unsafe(no_mangle)]
 pub extern "C" fn ponybollard_get(store: &[u8], key: &[u8], value: &mut u32) -> u32
     ensures promise { Get layout key.now store.now (valued result value.new) }
@@ -72,6 +78,7 @@ pub extern "C" fn ponybollard_get(store: &[u8], key: &[u8], value: &mut u32) -> 
 }
 
 // A stored key gets another value.
+#[tactic(auto, using(crate::proofs::HandedLaws::overwrite_promise, crate::proofs::HandedLaws::overwrite_is))]
 #[unsafe(no_mangle)]
 pub extern "C" fn ponybollard_overwrite(store: &mut [u8], key: &[u8], value: u32) -> u32
     ensures promise { Overwrite layout key.now value store.old store.new (bare result) }
@@ -81,6 +88,7 @@ pub extern "C" fn ponybollard_overwrite(store: &mut [u8], key: &[u8], value: u32
 }
 
 // A stored key is taken out.
+#[tactic(auto, using(crate::proofs::HandedLaws::remove_promise, crate::proofs::HandedLaws::remove_is))]
 #[unsafe(no_mangle)]
 pub extern "C" fn ponybollard_remove(store: &mut [u8], key: &[u8]) -> u32
     ensures promise { Remove layout key.now store.old store.new (bare result) }
@@ -90,6 +98,7 @@ pub extern "C" fn ponybollard_remove(store: &mut [u8], key: &[u8]) -> u32
 }
 
 // The first page of a listing.
+#[tactic(auto, using(crate::proofs::HandedLaws::first_promise, crate::proofs::HandedLaws::first_is))]
 #[unsafe(no_mangle)]
 pub extern "C" fn ponybollard_first_page(
     store: &[u8],
@@ -113,6 +122,7 @@ pub extern "C" fn ponybollard_first_page(
 }
 
 // The page after a key.
+#[tactic(auto, using(crate::proofs::HandedLaws::next_promise, crate::proofs::HandedLaws::next_is))]
 #[unsafe(no_mangle)]
 pub extern "C" fn ponybollard_next_page(
     store: &[u8],

@@ -1,5 +1,6 @@
-// Insertion, lookup and deletion carried out on a store, and the answer's line written. Answers and errors are of other crates, so that no `From` can be
-// written for them here. Output goes at the start of a lent slice, and its length comes back, as in `line`.
+// Insertion, lookup and deletion carried out on a store, and the answer's line written. A `From` for an answer would have to stand in the crate of the answers
+// or in that of the errors, and neither knows the other. Output goes at the start of a lent slice, and its length comes back, as in `line`; that it has room for
+// any answer of one line stands in contracts, since a lent slice has no type for its least length.
 ghost use Rattle.std.specs.Prelude.{◌≡◌, ◌≤◌, length};
 ghost use Rattle.index_spec.specs.Layout.{layout};
 ghost use Rattle.line.specs.Line;

@@ -1,4 +1,5 @@
-// A turn of the program: the bytes of a piece of input up to the first newline are taken, and the line that ends there is answered.
+// A turn of the program: the bytes of a piece of input up to the first newline are taken, and the line that ends there is answered. The sizes of what is lent
+// stand in contracts: a lent slice has no type for its least or its greatest length.
 ghost use Rattle.std.specs.Prelude.{◌≡◌, ◌≤◌, length};
 ghost use Rattle.index_spec.specs.Layout.{layout};
 ghost use Rattle.line.specs.Run.{held_line};
@@ -54,7 +55,7 @@ pub struct Turn {
 }
 
 // The store has 65,536 bytes at most, the line's buffer 200 at least, and the output is as long as the longest answer. They are lent side by side and not in
-// a struct: Turned names each before and after the turn.
+// a struct: Turned names each before and after the turn. The line's buffer stands beside what is held, since there is no heap.
 pub fn take_turn(
     store: &mut [u8],
     piece: &[u8],

@@ -16,7 +16,7 @@ pub fn write1(s: &mut [u8], at: usize, value: u8)
     s[at] = value;
 }
 
-// The n bytes from `at` on, put `by` places further up.
+// The n bytes from `at` on, put `by` places further up. `move_down` is no second case of it: they differ in which end has `by`, and docs/TRACE.md names both.
 pub fn move_up(s: &mut [u8], at: usize, by: usize, n: usize)
     requires { at + by + n ≤ length s.old }
     ensures { s.new ≡ splice s.old (at + by) (part s.old at n) }

@@ -1,5 +1,6 @@
 // A page: one way down to where the keys with the prefix stand, one to the closest leaf to the key that the page begins at, and a walk over what is given.
-// That the capacity fits the store stands in each contract: docs/TRACE.md names these functions, and a type that holds both would ask more of their callers.
+// That the capacity fits the store stands in each contract: `list`, which docs/TRACE.md names, takes any store and number that fit, and a type with that invariant
+// would ask more of its callers; the private functions take what it has.
 ghost use Rattle.std.specs.Prelude.{◌≡◌, ◌≤◌, ◌<◌, ◌*◌, length};
 ghost use Rattle.model.specs.Key.{key_limit, starts_with};
 ghost use Rattle.model.specs.Nibble.{critical as critical_of};
@@ -44,10 +45,9 @@ fn page_of(p: Progress, n: usize) -> Result<Page, NotAStore>
     requires { p.left ≤ n }
     ensures { result ≡ listed_of n p.at p.left p.stop }
 {
-    let stop = p.stop;
     let entries = n - p.left;
     let bytes = p.at;
-    match stop {
+    match p.stop {
         Stop::Going => Ok(Page {
             entries,
             bytes,
@@ -85,13 +85,7 @@ fn lies_past(bound: &[u8], key: &[u8], place: usize, too: bool) -> bool
 {
     let x = nibble(bound, place);
     let y = nibble(key, place);
-    if x < y {
-        return true;
-    }
-    if y < x {
-        return false;
-    }
-    too
+    x < y || (x == y && too)
 }
 
 // The page below a link, beside the closest leaf to the bound.
@@ -156,10 +150,7 @@ fn list_from(
 {
     match descend(store, capacity, prefix, root, 2 * prefix.len())? {
         Walked::At(_met, step) => {
-            let child = step.child;
-            let position = step.position;
-            let link = Link { child, position };
-            list_under(store, capacity, prefix, bound, too, n, link, out)
+            list_under(store, capacity, prefix, bound, too, n, step.link(), out)
         }
         Walked::Missing(_b, _s) => Ok(no_entry()),
     }

@@ -1,4 +1,5 @@
 // The value of a stored key.
+// That the store has its header's blocks stands in the contract of the inner function, as for the calls that write: the store and its header are two values.
 ghost use Rattle.std.specs.Prelude.{◌≡◌, ◌≤◌, length};
 ghost use Rattle.node.specs.Layout.{start};
 ghost use Rattle.promises.specs.Promises.{Get};

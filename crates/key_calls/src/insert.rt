@@ -18,6 +18,5 @@ pub fn insert(store: &mut [u8], key: &[u8], value: u32) -> Result<Inserted, Inse
     if key.len() > KEY_LIMIT {
         return Err(InsertError::Key);
     }
-    let inserted = trie::insert::insert(store, h, key, value)?;
-    Ok(inserted)
+    Ok(trie::insert::insert(store, h, key, value)?)
 }

@@ -1,4 +1,6 @@
 // A stored key gets another value.
+// That the store has its header's blocks stands in the contract of the inner function: the store and its header are two values, and a type that holds both
+// would have to be proved anew after each write.
 ghost use Rattle.std.specs.Prelude.{◌≤◌, length};
 ghost use Rattle.node.specs.Layout.{start};
 ghost use Rattle.trie_spec.specs.Writes.{Did};

@@ -1,4 +1,6 @@
 // A stored key is taken out.
+// That the store has its header's blocks stands in the contract of the inner function: the store and its header are two values, and a type that holds both
+// would have to be proved anew after each write.
 ghost use Rattle.std.specs.Prelude.{◌≤◌, length};
 ghost use Rattle.model.specs.Numbers.{most};
 ghost use Rattle.node.specs.Layout.{start};

@@ -12,12 +12,12 @@ use borrow.Author.Tests.{lt-ltb, le-ltb, le-leb, lt-leb, eq-eqb, ne_eqb}
 use Rattle.std.specs.Prelude
 use Rattle.std.specs.Option.{ok_or}
 use Rattle.std.specs.Prelude.{Result, Some, None, Ok, Err}
+use Rattle.model.specs.Page.{plain, inclusive}
 use Rattle.line.specs.Text.{key_of, number_of}
-use Rattle.line.specs.Line.{Command, Line, command, bad, key, insert, fits, first_space, with_key, with_both, insert_line, by_letter, short_line, line_of}
-use Rattle.line.specs.Code.{KeyIs, LineIs, command_for}
+use Rattle.line.specs.Line.{Command, Line, command, bad, key, insert, get, delete, list, fits, first_space, with_key, with_both, insert_line, by_letter, short_line, line_of}
+use Rattle.line.specs.Code.{KeyIs, KeyReadIs, LineIs}
 use Rattle.line.specs.declared.reading.Parsed.{Parsed}
 use Rattle.line.specs.declared.reading.LineError.{LineError}
-use Rattle.line.specs.declared.reading.Verb.{Verb}
 
 -- What was not refused was there.
 pub was_some : {E : Type 0} (r : Prelude.Option ℕ) (x : E) {n : ℕ} → Ok n ≡ ok_or r x → r ≡ Some n
@@ -38,6 +38,24 @@ module _ (b c : List ℕ) (n : ℕ) (x : Command) (s : length c ≡ length b) (w
 
   fits_short : n ≤ 64 → fits (take n c) x ≡ command x
   fits_short h = rw (length-take-le n c (omega arith), lt-leb 65 n (omega arith))
+
+-- A KEY AND NOTHING MORE
+
+module _ {k : Option (List ℕ)} {b c : List ℕ} where
+  pub key_bad : KeyIs k b c None → KeyReadIs k b c (Err LineError.Bad)
+  key_bad d = record { is = λ f. rw (← d.is); size = d.size; within = omega arith; fits = omega arith }
+
+  module _ {n : ℕ} (d : KeyIs k b c (Some n)) where
+    pub key_long : 64 < n → KeyReadIs k b c (Err LineError.Key)
+    key_long h = record { is = λ f. rw (← d.is, fits_long b c n (f (take n c)) d.size d.within h); size = d.size; within = omega arith; fits = omega arith }
+
+    pub key_whole : n ≤ 64 → KeyReadIs k b c (Ok n)
+    key_whole h = record { is = λ f. rw (← d.is, fits_short b c n (f (take n c)) d.size d.within h); size = d.size; within = d.within; fits = h }
+
+  -- The line is refused as its key is.
+  key_refused : (f : List ℕ → Command) (e : LineError) → KeyReadIs k b c (Err e) → LineIs (with_key f k) b c (Err e)
+  key_refused f LineError.Bad r = record { is = r.is f; size = r.size; within = r.within; fits = r.fits }
+  key_refused f LineError.Key r = record { is = r.is f; size = r.size; within = r.within; fits = r.fits }
 
 -- A KEY, A SPACE, A NUMBER
 
@@ -82,18 +100,21 @@ module _ (w : List ℕ) {at : ℕ} (first : at ≡ first_space w) where
 
 -- THE LETTER
 
-abbrev pub letter_of : Verb → ℕ
-letter_of Verb.Get = 103
-letter_of Verb.Delete = 100
-letter_of Verb.Plain = 112
-letter_of Verb.Inclusive = 113
-
-by_verb : (v : Verb) {a : ℕ} (w : List ℕ) → a ≡ letter_of v → by_letter a w ≡ with_key (command_for v) (key_of w)
+by_get : {a : ℕ} (w : List ℕ) → a ≡ 103 → by_letter a w ≡ with_key get (key_of w)
 unfolding by_letter
-by_verb Verb.Get w e = rw e
-by_verb Verb.Delete w e = rw e
-by_verb Verb.Plain w e = rw e
-by_verb Verb.Inclusive w e = rw e
+by_get w e = rw e
+
+by_delete : {a : ℕ} (w : List ℕ) → a ≡ 100 → by_letter a w ≡ with_key delete (key_of w)
+unfolding by_letter
+by_delete w e = rw e
+
+by_plain : {a : ℕ} (w : List ℕ) → a ≡ 112 → by_letter a w ≡ with_key (list plain) (key_of w)
+unfolding by_letter
+by_plain w e = rw e
+
+by_inclusive : {a : ℕ} (w : List ℕ) → a ≡ 113 → by_letter a w ≡ with_key (list inclusive) (key_of w)
+unfolding by_letter
+by_inclusive w e = rw e
 
 by_insert : {a : ℕ} (w : List ℕ) → a ≡ 105 → by_letter a w ≡ insert_line w
 unfolding by_letter
@@ -129,8 +150,35 @@ module _ (l : List ℕ) {b c : List ℕ} {r : Result Parsed LineError} (h : 2 �
   pub short_insert : get_or l 0 0 ≡ 105 → LineIs (insert_line (take (length l - 2) (drop 2 l))) b c r → LineIs (short_line l) b c r
   short_insert e k = line_as (short_is l h s ∙ by_insert (take (length l - 2) (drop 2 l)) e) k
 
-  pub short_verb : (v : Verb) → get_or l 0 0 ≡ letter_of v → LineIs (with_key (command_for v) (key_of (take (length l - 2) (drop 2 l)))) b c r → LineIs (short_line l) b c r
-  short_verb v e k = line_as (short_is l h s ∙ by_verb v (take (length l - 2) (drop 2 l)) e) k
+abbrev word_of : List ℕ → List ℕ
+word_of l = take (length l - 2) (drop 2 l)
+
+module _ (l : List ℕ) {b c : List ℕ} (h : 2 ≤ length l) (s : get_or l 1 0 ≡ 32) where
+  module _ {e : LineError} (r : KeyReadIs (key_of (word_of l)) b c (Err e)) where
+    pub get_refused : get_or l 0 0 ≡ 103 → LineIs (short_line l) b c (Err e)
+    get_refused a = line_as (short_is l h s ∙ by_get (word_of l) a) (key_refused get e r)
+
+    pub delete_refused : get_or l 0 0 ≡ 100 → LineIs (short_line l) b c (Err e)
+    delete_refused a = line_as (short_is l h s ∙ by_delete (word_of l) a) (key_refused delete e r)
+
+    pub plain_refused : get_or l 0 0 ≡ 112 → LineIs (short_line l) b c (Err e)
+    plain_refused a = line_as (short_is l h s ∙ by_plain (word_of l) a) (key_refused (list plain) e r)
+
+    pub inclusive_refused : get_or l 0 0 ≡ 113 → LineIs (short_line l) b c (Err e)
+    inclusive_refused a = line_as (short_is l h s ∙ by_inclusive (word_of l) a) (key_refused (list inclusive) e r)
+
+  module _ {n : ℕ} (r : KeyReadIs (key_of (word_of l)) b c (Ok n)) where
+    pub get_read : get_or l 0 0 ≡ 103 → LineIs (short_line l) b c (Ok (Parsed.Get n))
+    get_read a = line_as (short_is l h s ∙ by_get (word_of l) a) (record { is = r.is get; size = r.size; within = r.within; fits = r.fits })
+
+    pub delete_read : get_or l 0 0 ≡ 100 → LineIs (short_line l) b c (Ok (Parsed.Delete n))
+    delete_read a = line_as (short_is l h s ∙ by_delete (word_of l) a) (record { is = r.is delete; size = r.size; within = r.within; fits = r.fits })
+
+    pub plain_read : get_or l 0 0 ≡ 112 → LineIs (short_line l) b c (Ok (Parsed.Plain n))
+    plain_read a = line_as (short_is l h s ∙ by_plain (word_of l) a) (record { is = r.is (list plain); size = r.size; within = r.within; fits = r.fits })
+
+    pub inclusive_read : get_or l 0 0 ≡ 113 → LineIs (short_line l) b c (Ok (Parsed.Inclusive n))
+    inclusive_read a = line_as (short_is l h s ∙ by_inclusive (word_of l) a) (record { is = r.is (list inclusive); size = r.size; within = r.within; fits = r.fits })
 
 pub short_other : (l b : List ℕ) → 2 ≤ length l → get_or l 1 0 ≡ 32 → (get_or l 0 0 ≡ 105 → ⊥) → (get_or l 0 0 ≡ 103 → ⊥) → (get_or l 0 0 ≡ 100 → ⊥) → (get_or l 0 0 ≡ 112 → ⊥) → (get_or l 0 0 ≡ 113 → ⊥)
     → LineIs (short_line l) b b (Err LineError.Bad)

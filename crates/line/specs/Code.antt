@@ -9,7 +9,6 @@ use Rattle.line.specs.Line
 use Rattle.line.specs.Run
 use Rattle.line.specs.declared.reading.Parsed.{Parsed}
 use Rattle.line.specs.declared.reading.LineError.{LineError}
-use Rattle.line.specs.declared.reading.Verb.{Verb}
 use Rattle.line.specs.declared.pieces.Taken.{Taken}
 
 -- A decoded key stands at the start of the buffer.
@@ -56,17 +55,22 @@ pub record LineIs (line : Line.Line) (before buffer : List ℕ) (r : Result Pars
   pub within : parsed_size r ≤ length before
   pub fits : parsed_size r ≤ key_limit
 
-abbrev pub parsed_as : Verb → ℕ → Parsed
-parsed_as Verb.Get n = Parsed.Get n
-parsed_as Verb.Delete n = Parsed.Delete n
-parsed_as Verb.Plain n = Parsed.Plain n
-parsed_as Verb.Inclusive n = Parsed.Inclusive n
+-- The line that a command with a key and nothing more is, its key being read.
+abbrev pub key_line : (List ℕ → Line.Command) → Result ℕ LineError → List ℕ → Line.Line
+key_line f (Ok n) buffer = Line.command (f (take n buffer))
+key_line f (Err LineError.Bad) buffer = Line.bad
+key_line f (Err LineError.Key) buffer = Line.key
 
-abbrev pub command_for : Verb → List ℕ → Line.Command
-command_for Verb.Get = Line.get
-command_for Verb.Delete = Line.delete
-command_for Verb.Plain = Line.list plain
-command_for Verb.Inclusive = Line.list inclusive
+abbrev pub read_size : Result ℕ LineError → ℕ
+read_size (Ok n) = n
+read_size (Err e) = 0
+
+-- Reading gave a key, or the refusal that every command with such a key has.
+pub record KeyReadIs (key : Option (List ℕ)) (before buffer : List ℕ) (r : Result ℕ LineError) : Type 0 where
+  pub is : (f : List ℕ → Line.Command) → key_line f r buffer ≡ Line.with_key f key
+  pub size : length buffer ≡ length before
+  pub within : read_size r ≤ length before
+  pub fits : read_size r ≤ key_limit
 
 -- These bytes, n of them, stand at the start of the output; what is past them is as before.
 pub record Wrote (bytes before out : List ℕ) (n : ℕ) : Type 0 where

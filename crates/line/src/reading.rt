@@ -1,14 +1,16 @@
-// A line read: keys in hex, numbers in decimal, a letter for each command.
+// A line read: keys in hex, numbers in decimal, a letter for each command. That the buffer has room for a word's key stands in the contract of each function
+// that decodes one: a lent slice has no type for its least length.
 ghost use Rattle.std.specs.Prelude.{◌≡◌, ◌*◌, ◌≤◌, ◌<◌, length, MatchOption};
 ghost use Rattle.line.specs.Text.{digit, pairs, key_of, number_of};
-ghost use Rattle.line.specs.Line.{first_space, with_key, insert_line, short_line, line_of};
-ghost use Rattle.line.specs.Code.{KeyIs, number_in, LineIs, parsed_as, command_for};
+ghost use Rattle.line.specs.Line.{first_space, insert_line, short_line, line_of};
+ghost use Rattle.line.specs.Code.{KeyIs, number_in, KeyReadIs, LineIs};
 
 // The bytes of a key as they are decoded: a line of 200 bytes has no longer one.
 pub const KEY_ROOM: usize = 100;
 
 pub const LINE_LIMIT: usize = 200;
 
+// The crate node's limit, which is written here once more: the language of the program knows no store, so that line does not stand on node.
 pub const KEY_LIMIT: usize = 64;
 
 // The value of a hex digit; none for any other byte.
@@ -93,35 +95,16 @@ pub enum LineError {
     Key,
 }
 
-// The commands that have a key and nothing more: `parse_key`'s contract names the command of each, which it could not of a closure that is handed in.
-#[derive(Clone, Copy, Debug, PartialEq, Eq)]
-pub enum Verb {
-    Get,
-    Delete,
-    Plain,
-    Inclusive,
-}
-
-fn parsed_as(verb: Verb, n: usize) -> Parsed
-    ensures { result ≡ parsed_as verb n }
-{
-    match verb {
-        Verb::Get => Parsed::Get(n),
-        Verb::Delete => Parsed::Delete(n),
-        Verb::Plain => Parsed::Plain(n),
-        Verb::Inclusive => Parsed::Inclusive(n),
-    }
-}
-
-fn parse_key(verb: Verb, word: &[u8], key: &mut [u8]) -> Result<Parsed, LineError>
+// A key and nothing more, which stands at the start of the buffer. The answer is how many bytes it has.
+fn parse_key(word: &[u8], key: &mut [u8]) -> Result<usize, LineError>
     requires { length word.now ≤ 2 * length key.old }
-    ensures { LineIs (with_key (command_for verb) (key_of word.now)) key.old key.new result }
+    ensures { KeyReadIs (key_of word.now) key.old key.new result }
 {
     let n = decode_key(word, key).ok_or(LineError::Bad)?;
     if KEY_LIMIT < n {
         return Err(LineError::Key);
     }
-    Ok(parsed_as(verb, n))
+    Ok(n)
 }
 
 // A key, a space, a number.
@@ -148,10 +131,10 @@ pub fn parse_short(line: &[u8], key: &mut [u8]) -> Result<Parsed, LineError>
     };
     match letter {
         b'i' => parse_insert(word, key),
-        b'g' => parse_key(Verb::Get, word, key),
-        b'd' => parse_key(Verb::Delete, word, key),
-        b'p' => parse_key(Verb::Plain, word, key),
-        b'q' => parse_key(Verb::Inclusive, word, key),
+        b'g' => Ok(Parsed::Get(parse_key(word, key)?)),
+        b'd' => Ok(Parsed::Delete(parse_key(word, key)?)),
+        b'p' => Ok(Parsed::Plain(parse_key(word, key)?)),
+        b'q' => Ok(Parsed::Inclusive(parse_key(word, key)?)),
         _ => Err(LineError::Bad),
     }
 }

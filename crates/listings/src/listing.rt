@@ -1,5 +1,6 @@
 // Listings: pages fetched one after the other, and their entries written as lines. Output goes at the start of a lent slice, and its length comes back, as in
-// `line`.
+// `line`. The key's buffer of 64 bytes stands in contracts: a lent slice has no type for its least length. A page is read as page_text and last_at read it,
+// which are defined on any bytes: where a key would be longer than 64 bytes, each function ends by a test of its own, since a helper could not return from it.
 ghost use Rattle.std.specs.Prelude.{◌≡◌, ◌+◌, ◌*◌, ◌≤◌, ◌<◌, length, take};
 ghost use Rattle.model.specs.Page.{start, after_key};
 ghost use Rattle.index_spec.specs.Layout.{layout};
@@ -17,8 +18,11 @@ use line::writing::{Answer, put_answer, put_entry};
 // More than the longest line of an entry.
 const LINE_ROOM: usize = 141;
 
-// The lines of the longest listing.
-const LINES_ROOM: usize = 141 * 511;
+// The lines of the longest listing: a store of 65,536 bytes has 511 keys.
+const LINES_ROOM: usize = LINE_ROOM * 511;
+
+// The longest answer: a listing's lines, and the longest other line behind them.
+pub const OUTPUT_ROOM: usize = LINES_ROOM + 11;
 
 // The entries that a page is asked for.
 const PAGE: usize = 16;
@@ -136,7 +140,8 @@ fn list_rest(
     }
 }
 
-// All pages, which are at most 32: a store has 511 keys at most.
+// All pages, which are at most 32: a store has 511 keys at most. The rest after the first page is added as in list_rest: a helper for both would call list_rest
+// and be called by it, and its measure would have to be shown for the two.
 fn list_all(store: &[u8], prefix: &[u8], mode: Mode, out: &mut [u8]) -> usize
     requires { length out.old ≤ output_room }
     ensures { IsListed prefix.now mode start 32 store.now out.old out.new result }

@@ -1,10 +1,12 @@
 // The descents. A descent ends at a leaf, at a branch from a stop position on, at a missing slot or at the last step: past the last position it is the
 // exact descent, and past the critical position it finds the place of an insertion. The closest descent goes to the lowest slot where one is missing.
-// That the capacity fits the store stands in each contract: docs/TRACE.md names these functions, and a type that holds both would ask more of their callers.
+// That the capacity fits the store stands in each contract: `descend`, `find_closest_leaf` and `find_near`, which docs/TRACE.md names, take any store and number
+// that fit, and a type with that invariant would ask more of their callers; the private functions take what these have. `number_in .. < capacity` stands beside
+// it: a link's number is tested against a capacity that is no part of the link.
 ghost use Rattle.std.specs.Prelude.{◌≡◌, ◌≤◌, ◌<◌, ◌-◌, length};
 ghost use Rattle.node.specs.Layout.{start};
 ghost use Rattle.node.specs.Child.{number_in, to_branch};
-ghost use Rattle.trie_spec.specs.Walk.{steps, walk, near, first, higher as higher_of, way, closest_of, Ended, Lands, OnWay, Nearby, Sound};
+ghost use Rattle.trie_spec.specs.Walk.{steps, walk, near, first, way, closest_of, Ended, Lands, OnWay, Nearby, Sound};
 
 use crate::keys::nibble;
 use node::NotAStore;
@@ -18,7 +20,7 @@ pub const DEPTH: usize = 2 * KEY_LIMIT;
 
 pub const STEPS: usize = DEPTH + 1;
 
-// The loops go from a branch on, and keep its number and its position apart: a number stays in a register where a link would be packed and unpacked.
+// The loops go from a branch on, and keep it and its position apart: each is a number that stays in a register, where a link would be packed and unpacked.
 // Document 01 names their form: a loop that yields by `break` what it meets, with the step count as falling number. The leaf below a branch that is met with
 // one step left lies deeper than a picture's.
 fn descend_below(
@@ -33,7 +35,7 @@ fn descend_below(
     ensures is { result ≡ walk store.now capacity key.now stop steps (first (to_branch branch.0 place)) }
     ensures lies { Lands capacity result }
 {
-    let mut number = branch.0;
+    let mut here = branch;
     let mut position = place;
     let mut at = Spot::Root;
     let mut above = Spot::Root;
@@ -42,7 +44,6 @@ fn descend_below(
         if left == 0 {
             break Err(NotAStore);
         }
-        let here = BranchNo(number);
         let p = position as usize;
         if stop <= p {
             let child = Child::Branch(here);
@@ -84,10 +85,10 @@ fn descend_below(
                     position: met,
                 },
             ) => {
-                number = b.0;
                 position = met;
                 above = at;
                 at = Spot::Under(here, slot);
+                here = b;
                 left -= 1;
             }
             None => break Ok(Walked::Missing(here, slot)),
@@ -106,21 +107,19 @@ pub fn descend(
     ensures is { result ≡ walk store.now capacity key.now stop steps (first root) }
     ensures lies { Lands capacity result }
 {
-    let child = root.child;
-    let position = root.position;
-    match child {
+    match root.child {
         Child::Leaf(_n) => {
             Ok(Walked::At(
-                child,
+                root.child,
                 Step {
-                    child,
-                    position,
+                    child: root.child,
+                    position: root.position,
                     at: Spot::Root,
                     above: Spot::Root,
                 },
             ))
         }
-        Child::Branch(b) => descend_below(store, capacity, key, b, position, stop),
+        Child::Branch(b) => descend_below(store, capacity, key, b, root.position, stop),
     }
 }
 
@@ -137,7 +136,7 @@ fn closest_from(
     ensures is { result ≡ near store.now capacity key.now (steps - above) above (to_branch branch.0 place) }
     ensures sound { Sound capacity result }
 {
-    let mut number = branch.0;
+    let mut here = branch;
     let mut position = place;
     let mut left: usize = STEPS - above;
     loop {
@@ -145,7 +144,7 @@ fn closest_from(
             break Err(NotAStore);
         }
         let slot = nibble(key, position as usize);
-        match follow_or_head(store, BranchNo(number), slot, capacity)? {
+        match follow_or_head(store, here, slot, capacity)? {
             Some(
                 Link {
                     child: Child::Leaf(leaf),
@@ -166,7 +165,7 @@ fn closest_from(
                     position: p,
                 },
             ) => {
-                number = b.0;
+                here = b;
                 position = p;
                 left -= 1;
             }
@@ -185,18 +184,10 @@ pub fn find_closest_leaf(
     ensures is { result ≡ near store.now capacity key.now steps 0 root }
     ensures sound { Sound capacity result }
 {
-    let child = root.child;
-    let position = root.position;
-    match child {
+    match root.child {
         Child::Leaf(leaf) => Ok(Closest { leaf, depth: 0 }),
-        Child::Branch(b) => closest_from(store, capacity, key, b, position, 0),
+        Child::Branch(b) => closest_from(store, capacity, key, b, root.position, 0),
     }
-}
-
-fn higher(a: u8, b: u8) -> u8
-    ensures { result ≡ higher_of a b }
-{
-    if a < b { b } else { a }
 }
 
 // The way down by the key's nibbles, as far as it goes, with the highest position on it: every descent to a position past that one ends where it does.
@@ -211,7 +202,7 @@ fn way_below(
     ensures is { result ≡ way store.now capacity key.now steps 0 0 (first (to_branch branch.0 place)) }
     ensures on { OnWay capacity result }
 {
-    let mut number = branch.0;
+    let mut here = branch;
     let mut position = place;
     let mut high: u8 = 0;
     let mut at = Spot::Root;
@@ -220,8 +211,7 @@ fn way_below(
         if left == 0 {
             break Err(NotAStore);
         }
-        let top = higher(high, position);
-        let here = BranchNo(number);
+        let top = high.max(position);
         let slot = nibble(key, position as usize);
         match get_child(store, here, slot, capacity)? {
             Some(
@@ -252,9 +242,9 @@ fn way_below(
                     position: met,
                 },
             ) => {
-                number = b.0;
                 position = met;
                 at = Spot::Under(here, slot);
+                here = b;
                 high = top;
                 left -= 1;
             }
@@ -268,23 +258,21 @@ fn find_way(store: &[u8], capacity: u16, key: &[u8], root: Link) -> Result<Way, 
     ensures is { result ≡ way store.now capacity key.now steps 0 0 (first root) }
     ensures on { OnWay capacity result }
 {
-    let child = root.child;
-    let position = root.position;
-    match child {
+    match root.child {
         Child::Leaf(n) => {
             Ok(Way::Leaf(
                 n,
                 0,
                 Step {
-                    child,
-                    position,
+                    child: root.child,
+                    position: root.position,
                     at: Spot::Root,
                     above: Spot::Root,
                 },
                 0,
             ))
         }
-        Child::Branch(b) => way_below(store, capacity, key, b, position),
+        Child::Branch(b) => way_below(store, capacity, key, b, root.position),
     }
 }
 

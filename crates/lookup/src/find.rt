@@ -1,5 +1,7 @@
 // Exact lookup: one descent, and the leaf's key compared.
-// That the capacity fits the store stands in each contract: docs/TRACE.md names these functions, and a type that holds both would ask more of their callers.
+// That the capacity fits the store stands in each contract: `find_exact_leaf` and `find_leaf`, which docs/TRACE.md names, take any store and number that fit, and a
+// type with that invariant would ask more of their callers; the private functions take what these have. `number_in .. < capacity` stands beside it: a link's number
+// is tested against a capacity that is no part of the link.
 ghost use Rattle.std.specs.Prelude.{◌≡◌, ◌≤◌, ◌<◌, length};
 ghost use Rattle.node.specs.Layout.{start};
 ghost use Rattle.node.specs.Child.{number_in, to_branch};
@@ -14,7 +16,7 @@ use node::child::{BranchNo, Child, LeafNo, Link, link_of};
 use node::header::Header;
 use trie_spec::descent::{Step, Walked};
 
-// Past every position.
+// Past every position. No Option: `walk` in the specs takes a stop position, and one past every position stops at none.
 const NO_STOP: usize = 256;
 
 // A leaf that a descent met, if its key is the one looked for.
@@ -83,7 +85,7 @@ fn seek_below(
     ensures is { result ≡ ends store.now capacity key.now steps (to_branch branch.0 place) }
     ensures below { Below capacity result }
 {
-    let mut number = branch.0;
+    let mut here = branch;
     let mut position = place;
     let mut left: usize = STEPS;
     loop {
@@ -91,7 +93,7 @@ fn seek_below(
             break Err(NotAStore);
         }
         let slot = nibble(key, position as usize);
-        match get_child(store, BranchNo(number), slot, capacity)? {
+        match get_child(store, here, slot, capacity)? {
             Some(
                 Link {
                     child: Child::Leaf(n),
@@ -109,7 +111,7 @@ fn seek_below(
                     position: p,
                 },
             ) => {
-                number = b.0;
+                here = b;
                 position = p;
                 left -= 1;
             }
@@ -123,11 +125,9 @@ fn seek(store: &[u8], capacity: u16, key: &[u8], root: Link) -> Result<Option<Le
     ensures is { result ≡ ends store.now capacity key.now steps root }
     ensures below { Below capacity result }
 {
-    let child = root.child;
-    let position = root.position;
-    match child {
+    match root.child {
         Child::Leaf(n) => Ok(Some(n)),
-        Child::Branch(b) => seek_below(store, capacity, key, b, position),
+        Child::Branch(b) => seek_below(store, capacity, key, b, root.position),
     }
 }
 

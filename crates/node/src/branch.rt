@@ -1,5 +1,7 @@
 // Branch records: a sparse array of links. The position of a branch stands in the link that leads to it.
-// That the store has room for the record stands in each contract: docs/TRACE.md names these functions, and a type that holds both would ask more of their callers.
+// That the store has room for the record stands in the contract of each public function: these, of which docs/TRACE.md names `get_child`, `child_at`, `child_place`,
+// `follow_or_head`, `set_child` and `make_branch`, take any store and number that fit, and a type with that invariant would ask more of their callers. Of a store that
+// is written the fact would have to be proved again after each write.
 ghost use Rattle.std.specs.Prelude.{◌≡◌, ◌≤◌, ◌<◌, length};
 ghost use Rattle.model.specs.Numbers.{most};
 ghost use Rattle.bitmap.specs.Entries.{nth, below, erase};

@@ -66,7 +66,5 @@ pub fn item_of(link: Link) -> u32
     requires { number_in link.child < most }
     ensures { (result ≡ item_of link) × (result < 16777216) }
 {
-    let child = link.child;
-    let position = link.position;
-    code_of(child) + position as u32 * 65536
+    code_of(link.child) + link.position as u32 * 65536
 }

@@ -2,7 +2,7 @@
 // writes them back once.
 ghost use Rattle.std.specs.Prelude.{◌≡◌, ◌≤◌, length};
 ghost use Rattle.model.specs.Numbers.{header_size};
-ghost use Rattle.node.specs.Header.{head_in, head_of, header, set_head, set_mark};
+ghost use Rattle.node.specs.Header.{head_in, head_of, set_head, set_mark};
 
 use crate::NotAStore;
 use crate::layout::{BLOCK, HEAD, capacity_of};
@@ -74,36 +74,17 @@ pub fn read_head(store: &[u8]) -> Result<Header, NotAStore>
     Ok(h)
 }
 
-// The numbers apart, so that each one's bound is known from its type.
-fn put_numbers(
-    store: &mut [u8],
-    capacity: u16,
-    limit: u16,
-    leaves: u16,
-    branches: u16,
-    root: u32,
-    leaf: u16,
-    branch: u16,
-)
-    requires { header_size ≤ length store.old }
-    ensures { store.new ≡ set_head store.old (header capacity limit leaves branches root leaf branch) }
-{
-    write2(store, 4, capacity);
-    write2(store, 6, limit);
-    write2(store, 8, leaves);
-    write2(store, 10, branches);
-    write::<3>(store, 12, root);
-    write2(store, 15, leaf);
-    write2(store, 17, branch);
-}
-
 pub fn put_head(store: &mut [u8], h: Header)
     requires { header_size ≤ length store.old }
     ensures { store.new ≡ set_head store.old h }
 {
-    put_numbers(
-        store, h.capacity, h.limit, h.leaves, h.branches, h.root, h.leaf, h.branch,
-    );
+    write2(store, 4, h.capacity);
+    write2(store, 6, h.limit);
+    write2(store, 8, h.leaves);
+    write2(store, 10, h.branches);
+    write::<3>(store, 12, h.root);
+    write2(store, 15, h.leaf);
+    write2(store, 17, h.branch);
 }
 
 pub fn put_mark(store: &mut [u8])

@@ -34,7 +34,7 @@ pub fn capacity_of(len: usize) -> u16
         return 0;
     }
     let n = (len - HEAD) / BLOCK;
-    if n <= MOST { n as u16 } else { MOST as u16 }
+    n.min(MOST) as u16
 }
 
 // Where block n starts.

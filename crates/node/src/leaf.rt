@@ -1,5 +1,7 @@
 // Leaf records: a length, a key and a value.
-// That the store has room for the record stands in each contract: docs/TRACE.md names these functions, and a type that holds both would ask more of their callers.
+// That the store has room for the record stands in each contract: the public functions, of which docs/TRACE.md names `key`, `value` and `write_leaf`, take any store and
+// number that fit, and a type with that invariant would ask more of their callers; the private one takes what `key` has. Of a store that is written the fact would have
+// to be proved again after each write.
 ghost use Rattle.std.specs.Prelude.{◌≡◌, ◌≤◌, leb, length};
 ghost use Rattle.model.specs.Key.{key_limit};
 ghost use Rattle.node.specs.Layout.{Room};

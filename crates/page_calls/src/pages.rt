@@ -1,4 +1,5 @@
-// Listings, page by page. "From the start" is not "after the empty key", so they are two calls.
+// Listings, page by page. "From the start" is not "after the empty key", so they are two calls. What holds once the header is read and the
+// sizes are tested stands in list_after's contract: the store and its header are two values, and a lent slice has no type for its least or greatest length.
 ghost use Rattle.std.specs.Prelude.{◌≡◌, ◌≤◌, ◌*◌, length};
 ghost use Rattle.model.specs.Key.{key_limit};
 ghost use Rattle.model.specs.Page.{after_key, follows};
@@ -81,8 +82,7 @@ pub fn first_page(
     if count_wrong(n, out.len()) {
         return Err(PageError::Count);
     }
-    let page = list(store, h, prefix, prefix, includes(mode), n as usize, out)?;
-    Ok(page)
+    Ok(list(store, h, prefix, prefix, includes(mode), n as usize, out)?)
 }
 
 pub fn next_page(
@@ -103,6 +103,5 @@ pub fn next_page(
     if count_wrong(n, out.len()) {
         return Err(PageError::Count);
     }
-    let page = list_after(store, h, prefix, mode, after, n as usize, out)?;
-    Ok(page)
+    Ok(list_after(store, h, prefix, mode, after, n as usize, out)?)
 }

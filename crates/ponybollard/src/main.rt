@@ -1,4 +1,5 @@
 // The command program of document 01: one command a line on standard input, its answer on standard output.
+// A program has a main of its own; stream::serve has the rest.
 #![tactic(auto)]
 
 fn main(rt: HostRuntime) {

@@ -1,7 +1,8 @@
 // Free records. Those of each kind are a chain through the records themselves: the header has the first one, and each has the number of the next; 65,535
 // ends a chain. A free leaf has the length 255 and the next number in its value bytes, a free branch has no child and the next number in its first item.
 // Taking and giving are at the head.
-// That the store has room for the record stands in each contract: docs/TRACE.md names these functions, and a type that holds both would ask more of their callers.
+// That the store has room stands in the contracts: `take` and `give`, which docs/TRACE.md names, take any store and number that fit, and a type with that invariant
+// would ask more of their callers; the functions of the trait take what these have. Of a store that is written the fact would have to be proved again after each write.
 ghost use Rattle.std.specs.Prelude.{ℕ, ◌≡◌, ◌≤◌, length, refl};
 ghost use Rattle.fields.specs.Part.{splice};
 ghost use Rattle.fields.specs.Number.{little_bytes};

@@ -1,5 +1,6 @@
 // Removal of a leaf that a descent met. "Remove takes the leaf out; a branch left with one child is replaced by that child."
-// That the capacity fits the store stands in each contract: docs/TRACE.md names these functions, and a type that holds both would ask more of their callers.
+// That the capacity fits the store stands in each contract: `remove`, which docs/TRACE.md names, takes any store and number that fit, and a type with that invariant
+// would ask more of its callers; the private function takes what it has. Of a store that is written the fact would have to be proved again after each write.
 ghost use Rattle.std.specs.Prelude.{◌≤◌, ◌<◌, length};
 ghost use Rattle.model.specs.Numbers.{most};
 ghost use Rattle.node.specs.Layout.{start};

@@ -12,7 +12,7 @@ const BLANK: u8 = 0x5A;
 
 fn put_got(out: &mut Output, got: Result<u32, LookupError>) {
     out.put_number(number(got));
-    out.put4(u64::from(found_value(got)));
+    out.put::<4>(u64::from(found_value(got)));
 }
 
 fn put_empty(out: &mut Output, empty: Result<bool, NotAStore>) {
@@ -24,8 +24,8 @@ fn put_empty(out: &mut Output, empty: Result<bool, NotAStore>) {
 fn put_page(out: &mut Output, page: &[u8], paged: Result<Page, PageError>) {
     let given = found_page(paged);
     out.put_number(number(paged));
-    out.put2(given.entries as u64);
-    out.put4(given.bytes as u64);
+    out.put::<2>(given.entries as u64);
+    out.put::<4>(given.bytes as u64);
     out.put1(u8::from(given.end));
     if given.bytes <= page.len() {
         out.append(&page[..given.bytes]);
@@ -108,8 +108,8 @@ pub fn answer(
         }
         Record::Hash => {
             let h = hash(part(all, 0, guarded(all, len)));
-            out.put4(h);
-            out.put4(h / 4294967296);
+            out.put::<4>(h);
+            out.put::<4>(h / 4294967296);
             len
         }
         _ => {

@@ -3,6 +3,7 @@ ghost use Rattle.std.specs.Prelude.{◌≤◌, ◌<◌};
 
 use index::pages::Mode;
 use numbers::numbers::mode_named;
+use std::array::from_fn;
 
 // What a page is asked for: its mode, its size, the room for its bytes and its prefix.
 #[derive(Clone, Copy)]
@@ -38,24 +39,22 @@ fn byte(s: &[u8], at: usize) -> usize
     s.get(at).map_or(0, |b| usize::from(*b))
 }
 
-fn two(s: &[u8], at: usize) -> usize
-    ensures { result < 65536 }
-{
-    byte(s, at) + 256 * byte(s, at.saturating_add(1))
+// The N bytes from `at` on.
+fn field<const N: usize>(s: &[u8], at: usize) -> [u8; N] {
+    from_fn(|i| s.get(at.saturating_add(i)).map_or(0, |b| *b))
 }
 
-fn four(s: &[u8], at: usize) -> usize
-    ensures { result < 4294967296 }
-{
-    two(s, at) + 65536 * two(s, at.saturating_add(2))
+fn two(s: &[u8], at: usize) -> u16 {
+    u16::from_le_bytes(field(s, at))
 }
 
-fn limit_at(s: &[u8], at: usize) -> u16 {
-    two(s, at) as u16
+fn four(s: &[u8], at: usize) -> u32 {
+    u32::from_le_bytes(field(s, at))
 }
 
-fn value_at(s: &[u8], at: usize) -> u32 {
-    four(s, at) as u32
+// A size or a place, as an index.
+fn size_at(s: &[u8], at: usize) -> usize {
+    four(s, at) as usize
 }
 
 // The n bytes from `at` on.
@@ -71,8 +70,8 @@ fn key_at(s: &[u8], at: usize) -> &[u8] {
 fn page_asked(s: &[u8]) -> Asked<'_> {
     Asked {
         mode: mode_named(byte(s, 1) != 0),
-        size: value_at(s, 2),
-        room: four(s, 6),
+        size: four(s, 2),
+        room: size_at(s, 6),
         prefix: key_at(s, 10),
     }
 }
@@ -83,20 +82,20 @@ pub fn read_record(s: &[u8]) -> (Record<'_>, usize)
 {
     let k = byte(s, 1);
     match byte(s, 0) as u8 {
-        b'Z' => (Record::New(four(s, 1)), 5),
+        b'Z' => (Record::New(size_at(s, 1)), 5),
         b'W' => (
-            Record::Write(four(s, 1), part(s, 6, byte(s, 5))),
+            Record::Write(size_at(s, 1), part(s, 6, byte(s, 5))),
             6 + byte(s, 5),
         ),
         b'H' => (Record::Hash, 1),
-        b'D' => (Record::Dump(four(s, 1), two(s, 5)), 7),
-        b'C' => (Record::Create(limit_at(s, 1)), 3),
+        b'D' => (Record::Dump(size_at(s, 1), usize::from(two(s, 5))), 7),
+        b'C' => (Record::Create(two(s, 1)), 3),
         b'K' => (Record::Check, 1),
         b'E' => (Record::IsEmpty, 1),
-        b'L' => (Record::SetLimit(limit_at(s, 1)), 3),
-        b'I' => (Record::Insert(key_at(s, 1), value_at(s, k + 2)), k + 6),
+        b'L' => (Record::SetLimit(two(s, 1)), 3),
+        b'I' => (Record::Insert(key_at(s, 1), four(s, k + 2)), k + 6),
         b'G' => (Record::Get(key_at(s, 1)), k + 2),
-        b'O' => (Record::Overwrite(key_at(s, 1), value_at(s, k + 2)), k + 6),
+        b'O' => (Record::Overwrite(key_at(s, 1), four(s, k + 2)), k + 6),
         b'R' => (Record::Remove(key_at(s, 1)), k + 2),
         b'F' => (Record::FirstPage(page_asked(s)), 11 + byte(s, 10)),
         b'N' => {

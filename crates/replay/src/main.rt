@@ -29,25 +29,13 @@ use input::read_record;
 use output::Output;
 use std::io::{Read, Stdin, Stdout, Write};
 
-// Bytes go to standard output. What it does not take is lost.
-fn write_out(stdout: &mut Stdout, bytes: &[u8]) {
-    let _ = stdout.write_all(bytes);
-}
-
-// Some of the input: 0 bytes at its end, and where it cannot be read.
-fn read_some(stdin: &mut Stdin, buf: &mut [u8]) -> usize
-    ensures { result ≤ length buf.new }
-{
-    stdin.read(buf).unwrap_or(0)
-}
-
-// Bytes of the input until the buffer is full or the input ends. A read gives any number of them, so the place is no counted index.
+// Bytes of the input until the buffer is full, or the input ends or cannot be read. A read gives any number of them, so the place is no counted index.
 fn read_full(stdin: &mut Stdin, buf: &mut [u8]) -> usize
     ensures { result ≤ length buf.new }
 {
     let mut done = 0;
     while done < buf.len() {
-        let n = read_some(stdin, &mut buf[done..]);
+        let n = stdin.read(&mut buf[done..]).unwrap_or(0);
         if n == 0 {
             break;
         }
@@ -59,10 +47,10 @@ fn read_full(stdin: &mut Stdin, buf: &mut [u8]) -> usize
 // With no more bytes than these the output has room for any one answer.
 const ENOUGH: usize = 131072;
 
-// The output is written once it has more bytes than that.
+// The output is written once it has more bytes than that. What standard output does not take is lost.
 fn flush(out: &mut Output, stdout: &mut Stdout) {
     if ENOUGH < out.filled() {
-        write_out(stdout, out.bytes());
+        let _ = stdout.write_all(out.bytes());
         out.clear();
     }
 }
@@ -104,7 +92,7 @@ fn play_all(
         }
         len = play(&block[..n], all, len, page, out, stdout);
     }
-    write_out(stdout, out.bytes());
+    let _ = stdout.write_all(out.bytes());
 }
 
 fn run(all: &mut [u8], stdin: &mut Stdin, stdout: &mut Stdout) {

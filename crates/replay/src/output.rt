@@ -1,10 +1,11 @@
 // The answers so far: bytes at the start of a lent buffer. What has no room is left out.
-use crate::input::part;
+ghost use Rattle.std.specs.Prelude.{◌≤◌, length};
 
 #[derive(Drop)]
 pub struct Output<'a> {
     buffer: &'a mut [u8],
     filled: usize,
+    ghost within: { filled ≤ length buffer.now },
 }
 
 // The low byte of a number.
@@ -22,7 +23,7 @@ impl<'a> Output<'a> {
     }
 
     pub fn bytes(&self) -> &[u8] {
-        part(self.buffer, 0, self.filled)
+        &self.buffer[..self.filled]
     }
 
     // The buffer begins anew.
@@ -42,20 +43,19 @@ impl<'a> Output<'a> {
         self.put1(low(u64::from(answer)));
     }
 
-    pub fn put2(&mut self, x: u64) {
-        self.put1(low(x));
-        self.put1(low(x / 256));
-    }
-
-    pub fn put4(&mut self, x: u64) {
-        self.put2(x);
-        self.put2(x / 65536);
+    // The low bytes of a number, so many, the lowest first.
+    pub fn put<const N: usize>(&mut self, x: u64) {
+        let mut rest = x;
+        for _ in 0..N {
+            self.put1(low(rest));
+            rest /= 256;
+        }
     }
 
     // The bytes of a slice, all or none.
     pub fn append(&mut self, bytes: &[u8]) {
         let n = self.filled;
-        if n <= self.buffer.len() && bytes.len() <= self.buffer.len() - n {
+        if bytes.len() <= self.buffer.len() - n {
             let e = n + bytes.len();
             self.buffer[n..e].copy_from_slice(bytes);
             self.filled = e;

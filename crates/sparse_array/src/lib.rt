@@ -13,7 +13,8 @@ ghost use Rattle.sparse_array.specs.Answers.{got, got_or_head, here, placed, Was
 use bitmap::bits::{count, lowest, place, present, with, without};
 use items::{bitmap, close, item, open, put_bitmap, put_item};
 
-// A store of an item is new at its slot, or over the one that is there.
+// A store of an item is new at its slot, or over the one that is there. `Inserted` of trie_spec has the same two: the docs name both, and an array knows nothing
+// of a trie.
 #[derive(Clone, Copy, Debug, PartialEq, Eq)]
 pub enum Put {
     New,
@@ -25,6 +26,7 @@ pub enum Put {
 pub struct NoSlot;
 
 // Whether a slot is present.
+#[tactic(auto, using(crate::proofs::Contracts::has_beyond, crate::proofs::Contracts::has_is))]
 pub fn has_sparse_index(s: &[u8], slot: u8) -> bool
     requires { length s.now ≡ size }
     ensures { result ≡ here (lookup slot (entries s.now)) }
@@ -36,6 +38,7 @@ pub fn has_sparse_index(s: &[u8], slot: u8) -> bool
 }
 
 // The place of a slot, present or not: the number of present slots below it.
+#[tactic(auto, using(crate::proofs::Contracts::place_is))]
 pub fn actual_index(s: &[u8], slot: u8) -> Option<usize>
     requires { length s.now ≡ size }
     ensures { result ≡ placed slot (entries s.now) }
@@ -47,6 +50,7 @@ pub fn actual_index(s: &[u8], slot: u8) -> Option<usize>
 }
 
 // The item of a slot.
+#[tactic(auto, using(crate::proofs::Contracts::get_beyond, crate::proofs::Contracts::get_missing, crate::proofs::Contracts::get_found))]
 pub fn get(s: &[u8], slot: u8) -> Option<u32>
     requires { length s.now ≡ size }
     ensures { result ≡ got (lookup slot (entries s.now)) }
@@ -62,6 +66,7 @@ pub fn get(s: &[u8], slot: u8) -> Option<u32>
 }
 
 // The item at a place: from place 0 on these are the items of all slots, in their order.
+#[tactic(auto, using(crate::proofs::Contracts::at_place, crate::proofs::Contracts::past_place))]
 pub fn item_at(s: &[u8], place: usize) -> Option<u32>
     requires { length s.now ≡ size }
     ensures { result ≡ got (nth place (entries s.now)) }
@@ -73,6 +78,7 @@ pub fn item_at(s: &[u8], place: usize) -> Option<u32>
 }
 
 // The item of a slot, or of the lowest present slot where that one is missing.
+#[tactic(auto, using(crate::proofs::Contracts::get_or_head_is))]
 pub fn get_or_head(s: &[u8], slot: u8) -> Option<u32>
     requires { length s.now ≡ size }
     ensures { result ≡ got_or_head slot (entries s.now) }
@@ -84,6 +90,7 @@ pub fn get_or_head(s: &[u8], slot: u8) -> Option<u32>
 }
 
 // An item put at a slot: a new one goes in between, and the later items move up.
+#[tactic(auto, using(crate::proofs::Contracts::set_beyond, crate::proofs::Contracts::place_up_to, crate::proofs::Contracts::has_room))]
 pub fn set(s: &mut [u8], slot: u8, value: u32) -> Result<Put, NoSlot>
     requires { length s.old ≡ size }
     ensures { WasSet slot value s.old s.new result }
@@ -124,6 +131,7 @@ pub fn remove(s: &mut [u8], slot: u8) -> Result<(), NoSlot>
 }
 
 // The item of the lowest present slot but for one: what is left of two slots once one is taken out.
+#[tactic(auto, using(crate::proofs::Contracts::head_beyond, crate::proofs::Contracts::head_missing, crate::proofs::Contracts::other_second, crate::proofs::Contracts::other_first))]
 pub fn head_without(s: &[u8], slot: u8) -> Option<u32>
     requires { length s.now ≡ size }
     ensures { result ≡ got (head_of (erase slot (entries s.now))) }
@@ -142,6 +150,7 @@ pub fn head_without(s: &[u8], slot: u8) -> Option<u32>
 }
 
 // The item of the lowest present slot.
+#[tactic(auto, using(crate::proofs::Contracts::head_is))]
 pub fn head(s: &[u8]) -> Option<u32>
     requires { length s.now ≡ size }
     ensures { result ≡ got (head_of (entries s.now)) }
@@ -150,6 +159,7 @@ pub fn head(s: &[u8]) -> Option<u32>
 }
 
 // The lowest present slot taken out, with its item.
+#[tactic(auto, using(crate::proofs::Contracts::none_in, crate::proofs::Contracts::pop_empty, crate::proofs::Contracts::some_in))]
 pub fn pop(s: &mut [u8]) -> Option<u32>
     requires { length s.old ≡ size }
     ensures { WasPopped s.old s.new result }
@@ -162,6 +172,7 @@ pub fn pop(s: &mut [u8]) -> Option<u32>
 }
 
 // The number of present slots.
+#[tactic(auto, using(crate::proofs::Contracts::len_is))]
 pub fn len(s: &[u8]) -> usize
     requires { length s.now ≡ size }
     ensures { result ≡ length (entries s.now) }
@@ -177,6 +188,7 @@ pub fn is_empty(s: &[u8]) -> bool
 }
 
 // No slot is present any more.
+#[tactic(auto, unfolding(crate::specs::Array::cleared))]
 pub fn clear(s: &mut [u8])
     requires { length s.old ≡ size }
     ensures { s.new ≡ cleared s.old }

@@ -1,4 +1,6 @@
-// Standard input, piece by piece, and the answers to its lines on standard output.
+// Standard input, piece by piece, and the answers to its lines on standard output. The store, the piece, the line, the output and the two streams are lent side
+// by side and not in a struct: Fed names the store, the piece and the line, each before or after the call, and of a struct each contract would name the fields. The
+// line's buffer stands beside what is held, since there is no heap.
 #![tactic(auto)]
 
 ghost use Rattle.std.specs.Prelude.{◌≡◌, ◌≤◌, length};
@@ -11,16 +13,13 @@ ghost use Rattle.stream.specs.Fed.{Fed};
 
 use command::turns::{end_input, take_turn};
 use line::pieces::Held;
+use line::reading::LINE_LIMIT;
+use listings::listing::OUTPUT_ROOM;
 use std::io::{Read, Stdin, Stdout, Write};
 
 const STORE_SIZE: usize = 65536;
 
 const LIMIT: u16 = 128;
-
-const LINE_ROOM: usize = 200;
-
-// The longest answer.
-const OUTPUT_ROOM: usize = 141 * 511 + 11;
 
 // Some of the input, so many bytes at the start of the piece: 0 at its end, and where it cannot be read.
 fn read_some(stdin: &mut Stdin, piece: &mut [u8]) -> usize
@@ -109,7 +108,7 @@ fn answer_all(
 // Standard input is read and answered with an empty store of 65,536 bytes.
 pub fn serve(piece: &mut [u8], mut stdin: Stdin, mut stdout: Stdout) {
     let mut store = [0u8; STORE_SIZE];
-    let mut line = [0u8; LINE_ROOM];
+    let mut line = [0u8; LINE_LIMIT];
     let mut out = [0u8; OUTPUT_ROOM];
     new_store(&mut store);
     answer_all(

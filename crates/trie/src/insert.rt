@@ -1,5 +1,7 @@
 // Insertion: the closest leaf, the critical position, and, where its end is not known by then, a second descent to where the new leaf goes.
-// That the capacity fits the store stands in each contract: docs/TRACE.md names these functions, and a type that holds both would ask more of their callers.
+// That the capacity fits the store stands in each contract: `insert`, which docs/TRACE.md names, takes any store and number that fit, and a type with that invariant
+// would ask more of its callers; the private functions take what it has. The store is written, and named before and after, so that it is no part of `Entry`: the
+// fact would have to be proved again after each write.
 ghost use Rattle.std.specs.Prelude.{◌≡◌, ◌≤◌, ◌<◌, length, ◌≢◌};
 ghost use Rattle.model.specs.Key.{key_limit};
 ghost use Rattle.model.specs.Numbers.{most};
@@ -77,18 +79,14 @@ fn plant(store: &mut [u8], e: Entry, leaf: LeafNo, branch: BranchNo, step: Step,
     ensures { store.new ≡ planted store.old e.entry.head e.entry.key.now e.entry.value leaf.0 branch.0 step parting.place parting.other }
 {
     write_leaf(store, leaf, e.key, e.value);
-    let child = step.child;
-    let position = step.position;
-    let at = step.at;
-    let old = Link { child, position };
     let place = parting.place;
     let slot = nibble(e.key, place as usize);
-    join(store, branch, slot, leaf, parting.other, old);
+    join(store, branch, slot, leaf, parting.other, step.link());
     let link = Link {
         child: Child::Branch(branch),
         position: place,
     };
-    relink(store, e.head, at, link);
+    relink(store, e.head, step.at, link);
 }
 
 // A new leaf, and a new branch over it and the link of a step.

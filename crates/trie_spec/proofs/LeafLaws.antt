@@ -174,24 +174,27 @@ module _ (st k : List ℕ) (n : LeafNo) (q : List ℕ) (key : q ≡ (leaf_in st 
 
 module _ (st : List ℕ) (cap leaves root : ℕ) (k : List ℕ) where
   module _ (r : Result Link NotAStore) (is : r ≡ link_of cap root) (ne : leaves ≡ 0 → ⊥) where
+    pub leaf_found : (m : Link) (w a : Found) → r ≡ Ok m → w ≡ ends st cap k steps m → a ≡ compared st k w → a ≡ found_at st cap leaves root k
+    leaf_found m w a e p q =
+        let here : found_at st cap leaves root k ≡ leaf_of (find_from st cap k m) = rw (ne_eqb leaves 0 ne, ← is, e) in
+        q ∙ ap (compared st k) (p ∙ sym (walk_ends st cap k steps m Root Root (placed cap root m (sym is ∙ e))))
+        ∙ sym (walked_leaf st k (walk st cap k no_stop steps (first m)))
+        ∙ sym here
+
     module _ (m : Link) (e : r ≡ Ok m) (w : Found) (p : w ≡ ends st cap k steps m) where
-      leaf_found : compared st k w ≡ found_at st cap leaves root k
-      leaf_found =
-          let here : found_at st cap leaves root k ≡ leaf_of (find_from st cap k m) = rw (ne_eqb leaves 0 ne, ← is, e) in
-          ap (compared st k) (p ∙ sym (walk_ends st cap k steps m Root Root (placed cap root m (sym is ∙ e))))
-          ∙ sym (walked_leaf st k (walk st cap k no_stop steps (first m)))
-          ∙ sym here
+      compared_found : compared st k w ≡ found_at st cap leaves root k
+      compared_found = leaf_found m w (compared st k w) e p refl
 
       pub leaf_astray : (z : NotAStore) → w ≡ Err z → Err not_a_store ≡ found_at st cap leaves root k
-      leaf_astray z i = ap (compared st k) (sym i) ∙ leaf_found
+      leaf_astray z i = ap (compared st k) (sym i) ∙ compared_found
 
       module _ (o : Option LeafNo) (i : w ≡ Ok o) where
         pub leaf_missing : o ≡ None → Ok None ≡ found_at st cap leaves root k
-        leaf_missing j = ap (compared st k) (sym (i ∙ ap Ok j)) ∙ leaf_found
+        leaf_missing j = ap (compared st k) (sym (i ∙ ap Ok j)) ∙ compared_found
 
         module _ (n : LeafNo) (j : o ≡ Some n) (q : List ℕ) (key : q ≡ (leaf_in st n.0).key) (f : Bool) (says : Says f (k ≡ q)) where
           pub leaf_same : f ≡ true → Ok (Some n) ≡ found_at st cap leaves root k
-          leaf_same t = compared_same st k n q key f says t ∙ ap (compared st k) (sym (i ∙ ap Ok j)) ∙ leaf_found
+          leaf_same t = compared_same st k n q key f says t ∙ ap (compared st k) (sym (i ∙ ap Ok j)) ∙ compared_found
 
           pub leaf_other : f ≡ false → Ok None ≡ found_at st cap leaves root k
-          leaf_other t = compared_other st k n q key f says t ∙ ap (compared st k) (sym (i ∙ ap Ok j)) ∙ leaf_found
+          leaf_other t = compared_other st k n q key f says t ∙ ap (compared st k) (sym (i ∙ ap Ok j)) ∙ compared_found

@@ -1,5 +1,8 @@
 // Where a descent ends, and the last step to it.
-use node::child::{BranchNo, Child, LeafNo};
+ghost use Rattle.std.specs.Prelude.{◌≡◌};
+ghost use Rattle.trie_spec.specs.Walk.{link_in};
+
+use node::child::{BranchNo, Child, LeafNo, Link};
 
 // Where a link stands: in the header, or in a slot of a branch.
 #[derive(Clone, Copy)]
@@ -15,6 +18,18 @@ pub struct Step {
     pub position: u8,
     pub at: Spot,
     pub above: Spot,
+}
+
+impl Step {
+    // The link to the child.
+    pub fn link(self) -> Link
+        ensures { result ≡ link_in self }
+    {
+        Link {
+            child: self.child,
+            position: self.position,
+        }
+    }
 }
 
 // Where a descent ends; NotAStore stands beside it where the records are no tree, or a deeper one than a picture.

@@ -1,4 +1,5 @@
 // Every command with every answer, on stored input.
+// A program has a main of its own; stream::serve has the rest.
 #![tactic(auto)]
 
 fn main(rt: HostRuntime) {

@@ -1,4 +1,5 @@
 // Every kind of malformed line, on stored input.
+// A program has a main of its own; stream::serve has the rest.
 #![tactic(auto)]
 
 fn main(rt: HostRuntime) {

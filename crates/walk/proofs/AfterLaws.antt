@@ -98,8 +98,8 @@ module _ (st : List ℕ) (cap : ℕ) (k : List ℕ) (c : ℕ) (up : Bool) (f : �
           by_slot : after st cap k c up f l ≡ on_linked (λ m. after st cap k c up (f - 1) m ++ below st cap f (i + 1) l) (below st cap f i l) nothing_right x
           by_slot = rw (is, slot) (after_in_lem b e nf h)
 
-          pub from_absent : (o : Option Link) (out' : List ℕ) (r : Progress) → x ≡ Ok o → o ≡ None → sheet out' r ≡ puts (below st cap f (i + 0) l) (sheet out p) → Whole out' r
-          from_absent o out' r g n q = whole (below st cap f i l) (sheet out' r) (by_slot ∙ rw (g, n)) (let z : i + 0 ≡ i = omega arith in q ∙ rw z)
+          pub from_absent : (o : Option Link) (out' : List ℕ) (r : Progress) (j : ℕ) → x ≡ Ok o → o ≡ None → j ≡ i → sheet out' r ≡ puts (below st cap f j l) (sheet out p) → Whole out' r
+          from_absent o out' r j g n at q = whole (below st cap f i l) (sheet out' r) (by_slot ∙ rw (g, n)) (q ∙ ap (λ (x : ℕ). puts (below st cap f x l) (sheet out p)) at)
 
           pub from_wrong : (e : NotAStore) (r : Progress) → x ≡ Err e → r ≡ wrongly p → Whole out r
           from_wrong e r g q = whole nothing_right (sheet out r) (by_slot ∙ rw g) (wrong_is out p r q ∙ sym (puts_one none (sheet out p)))
@@ -111,13 +111,8 @@ module _ (st : List ℕ) (cap : ℕ) (k : List ℕ) (c : ℕ) (up : Bool) (f : �
             then : puts (after st cap k c up (f - 1) next ++ below st cap f (i + 1) l) (sheet out p) ≡ puts (below st cap f (i + 1) l) (sheet out₁ r₁)
             then = puts_append (after st cap k c up (f - 1) next) (below st cap f (i + 1) l) (sheet out p) ∙ ap (puts (below st cap f (i + 1) l)) (sym w)
 
-            pub from_both : (out' : List ℕ) (r : Progress) → sheet out' r ≡ puts (below st cap f (i + 1) l) (sheet out₁ r₁) → Whole out' r
-            from_both out' r q = whole _ (sheet out' r) both (q ∙ sym then)
+            pub from_both : (out' : List ℕ) (r : Progress) (j : ℕ) → j ≡ i → sheet out' r ≡ puts (below st cap f (j + 1) l) (sheet out₁ r₁) → Whole out' r
+            from_both out' r j at q = whole _ (sheet out' r) both (q ∙ (ap (λ (x : ℕ). puts (below st cap f (x + 1) l) (sheet out₁ r₁)) at ∙ sym then))
 
             pub from_stopped : (t : Bool) → t ≡ is_stopped r₁.stop → t ≡ true → Whole out₁ r₁
             from_stopped t q z = whole _ (sheet out₁ r₁) both (sym (puts_stopped (below st cap f (i + 1) l) (sheet out₁ r₁) (sym q ∙ z)) ∙ sym then)
-
--- the place of a slot, as the code has it
-pub from_place : (st : List ℕ) (cap f b s skip i : ℕ) (l : Link) (out out' : List ℕ) (p r : Progress) → i ≡ place_of s (children_in st b)
-    → sheet out' r ≡ puts (below st cap f (i + skip) l) (sheet out p) → sheet out' r ≡ puts (below st cap f (place_of s (children_in st b) + skip) l) (sheet out p)
-from_place st cap f b s skip i l out out' p r e q = q ∙ rw e

@@ -1,23 +1,23 @@
 // The walk over what a page gives. It stops at the first entry past those that are wanted, and at the first thing that is wrong. So whatever the bytes, each way
 // down ends at an entry that is given or ends the walk, but for the one to the key that the page begins at; and a page costs no more than its entries and two
 // more, each with the branches above it.
-// That the capacity fits the store stands in each contract: docs/TRACE.md names these functions, and a type that holds both would ask more of their callers.
-ghost use Rattle.std.specs.Prelude.{◌≡◌, ◌≤◌, ◌<◌, ◌+◌, length};
+// That the capacity fits the store stands in each contract: `emit` and `emit_after`, which docs/TRACE.md names, take any store and number that fit, and a type with
+// that invariant would ask more of their callers; the private functions take what these have. `number_in .. < capacity` stands beside it: a link's number is tested
+// against a capacity that is no part of the link.
+ghost use Rattle.std.specs.Prelude.{◌≡◌, ◌≤◌, ◌<◌, length};
 ghost use Rattle.std.proofs.Math.Option.{some};
 ghost use Rattle.node.specs.Layout.{start};
-ghost use Rattle.bitmap.specs.Entries.{below as place_of};
 ghost use Rattle.node.specs.Child.{number_in};
-ghost use Rattle.node.specs.Branch.{children_in};
 ghost use Rattle.walk.specs.Walk.{entry_in, sheet, HasRoom, is_stopped, put, puts, wrongly, below, after};
 
 use crate::entry::write_entry;
 use lookup::keys::nibble;
 use node::NotAStore;
 use node::branch::{child_at, child_count, child_place, get_child};
-use node::child::{BranchNo, Child, LeafNo, Link};
+use node::child::{Child, LeafNo, Link};
 
 // Whether a page goes on. No Result: what was given before the walk met what no tree has is given all the same.
-#[derive(Clone, Copy)]
+#[derive(Clone, Copy, Debug, PartialEq, Eq)]
 pub enum Stop {
     Going,
     // there is a further entry, which is not wanted
@@ -27,7 +27,7 @@ pub enum Stop {
 }
 
 // How far a page is: the bytes written, and the entries that are still wanted.
-#[derive(Clone, Copy)]
+#[derive(Clone, Copy, Debug, PartialEq, Eq)]
 pub struct Progress {
     pub at: usize,
     pub left: usize,
@@ -37,12 +37,7 @@ pub struct Progress {
 fn stopped(p: Progress) -> bool
     ensures { result ≡ is_stopped p.stop }
 {
-    let stop = p.stop;
-    match stop {
-        Stop::Going => false,
-        Stop::Further => true,
-        Stop::Wrong => true,
-    }
+    p.stop != Stop::Going
 }
 
 // The entry of a leaf is written, while one is wanted.
@@ -54,19 +49,16 @@ fn give(store: &[u8], capacity: u16, leaf: LeafNo, out: &mut [u8], p: Progress) 
     if stopped(p) {
         return p;
     }
-    let at = p.at;
-    let left = p.left;
-    if left == 0 {
+    if p.left == 0 {
         return Progress {
-            at,
-            left,
             stop: Stop::Further,
+            ..p
         };
     }
-    let size = write_entry(store, leaf, &mut out[at..]);
+    let size = write_entry(store, leaf, &mut out[p.at..]);
     Progress {
-        at: at + size,
-        left: left - 1,
+        at: p.at + size,
+        left: p.left - 1,
         stop: Stop::Going,
     }
 }
@@ -78,12 +70,9 @@ fn wrong(p: Progress) -> Progress
     if stopped(p) {
         return p;
     }
-    let at = p.at;
-    let left = p.left;
     Progress {
-        at,
-        left,
         stop: Stop::Wrong,
+        ..p
     }
 }
 
@@ -101,8 +90,7 @@ pub fn emit(
     ensures is { sheet out.new result ≡ puts (below store.now capacity deep place link) (sheet out.old progress) }
     ensures room { HasRoom out.new result }
 {
-    let child = link.child;
-    match child {
+    match link.child {
         Child::Leaf(n) => give(store, capacity, n, out, progress),
         Child::Branch(b) => {
             if deep == 0 {
@@ -117,8 +105,7 @@ pub fn emit(
                 let Ok(Some(next)) = child_at(store, b, i, capacity) else {
                     return wrong(p);
                 };
-                let met = next.child;
-                match met {
+                match next.child {
                     Child::Leaf(n) => {
                         p = give(store, capacity, n, out, p);
                     }
@@ -133,26 +120,6 @@ pub fn emit(
             p
         }
     }
-}
-
-// The entries of a branch's children from the place of a slot on, or from the place after it.
-fn emit_from(
-    store: &[u8],
-    capacity: u16,
-    link: Link,
-    branch: BranchNo,
-    slot: u8,
-    skip: u8,
-    deep: usize,
-    out: &mut [u8],
-    progress: Progress,
-) -> Progress
-    requires { (start capacity ≤ length store.now) × (number_in link.child < capacity) × (branch.0 < capacity) × (slot ≤ 16) × (HasRoom out.old progress) }
-    ensures is { sheet out.new result ≡ puts (below store.now capacity deep (place_of slot (children_in store.now branch.0) + skip) link) (sheet out.old progress) }
-    ensures room { HasRoom out.new result }
-{
-    let place = child_place(store, branch, slot) + skip as usize;
-    emit(store, capacity, link, place, deep, out, progress)
 }
 
 // The entries below a link from a key on, which need not be stored. `critical` is the key's critical position with the closest leaf to it, and `up` says whether
@@ -173,8 +140,7 @@ pub fn emit_after(
     ensures is { sheet out.new result ≡ puts (after store.now capacity key.now critical up deep link) (sheet out.old progress) }
     ensures room { HasRoom out.new result }
 {
-    let child = link.child;
-    match child {
+    match link.child {
         Child::Leaf(n) => {
             if up {
                 return give(store, capacity, n, out, progress);
@@ -209,9 +175,13 @@ pub fn emit_after(
                     if stopped(p) {
                         return p;
                     }
-                    emit_from(store, capacity, link, b, slot, 1, deep, out, p)
+                    let place = child_place(store, b, slot) + 1;
+                    emit(store, capacity, link, place, deep, out, p)
                 }
-                Ok(None) => emit_from(store, capacity, link, b, slot, 0, deep, out, progress),
+                Ok(None) => {
+                    let place = child_place(store, b, slot);
+                    emit(store, capacity, link, place, deep, out, progress)
+                }
                 Err(NotAStore) => wrong(progress),
             }
         }

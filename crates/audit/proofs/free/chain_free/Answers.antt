@@ -1,11 +1,8 @@
 -- `audit::free::chain_free` meets its contract. The invariant: the rest of the chain from here is the whole from its first record. Assumes nothing.
 use mathlib.Core.Path.{◌≡◌, ap, ◌∙◌}
-use Rattle.audit_tree.proofs.Contracts.{chain_end, chain_out, chain_used, chain_next}
+use Rattle.audit_tree.proofs.Contracts.{chain_used, chain_next}
 use borrow.Author.Rules.{rules}
 use Rattle.audit.proofs.free.chain_free.Goals as goal
-
-pub returns-then-h-at : goal.returns-then-h-at
-returns-then-h-at g c = search (chain_out, rules)
 
 pub returns-then-not-is_free : goal.returns-then-not-is_free
 returns-then-not-is_free g c =
@@ -18,6 +15,3 @@ loop-preserved g c =
     let free = rw e at c.is_free.ensures in
     let next = rw e at c.next-at.ensures in
     search (chain_next, rules)
-
-pub returns : goal.returns
-returns g c = search (chain_end, rules)

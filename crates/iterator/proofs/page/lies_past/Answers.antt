@@ -6,8 +6,8 @@ use Rattle.iterator.proofs.page.lies_past.Goals as goal
 pub returns-then-x-y : goal.returns-then-x-y
 returns-then-x-y c = search (past_higher, rules)
 
-pub returns-then-y-x : goal.returns-then-y-x
-returns-then-y-x c = search (past_lower, rules)
+pub returns-then-x-y-2 : goal.returns-then-x-y-2
+returns-then-x-y-2 c = search (past_equal, rules)
 
-pub returns : goal.returns
-returns c = search (past_equal, rules)
+pub returns-else-x-y-2 : goal.returns-else-x-y-2
+returns-else-x-y-2 c = search (past_lower, rules)

@@ -9,14 +9,14 @@ use Rattle.key_calls.proofs.insert.insert.Goals as goal
 pub insert-requires : goal.insert-requires
 insert-requires c = search (blocks, blocks_few, rules)
 
-pub returns-in_err-inserted-clause-promise : goal.returns-in_err-inserted-clause-promise
-returns-in_err-inserted-clause-promise c =
-    let n : c.from_residual-in_err-inserted.result ≡ inserted_of c.insert.result = rw c.in_err-inserted.was (search rules) in
+pub returns-in_err-insert-clause-promise : goal.returns-in_err-insert-clause-promise
+returns-in_err-insert-clause-promise c =
+    let n : c.from_residual-in_err-insert.result ≡ inserted_of c.insert.result = rw c.in_err-insert.was (search rules) in
     let g = c.in_ok-h.was in
     search (insert_done, rules)
 
 pub returns-clause-promise : goal.returns-clause-promise
 returns-clause-promise c =
-    let n = ap inserted_of (sym c.in_ok-inserted.was) in
+    let n = ap inserted_of (sym c.in_ok-insert.was) in
     let g = c.in_ok-h.was in
     search (insert_done, rules)

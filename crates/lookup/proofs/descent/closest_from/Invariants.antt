@@ -6,7 +6,7 @@ use Rattle.trie_spec.specs.Walk.{steps, near}
 use Rattle.lookup.proofs.descent.closest_from.Given as goal
 
 abbrev pub invariant-loop-left : goal.invariant-loop-left
-invariant-loop-left l = (l.left ≤ steps) × (l.number < l.capacity) × (l.position < 256) × (near l.store l.capacity l.key l.left (steps - l.left) (to_branch l.number l.position) ≡ near l.store l.capacity l.key (steps - l.fn.above) l.fn.above (to_branch l.fn.branch.0 l.fn.place))
+invariant-loop-left l = (l.left ≤ steps) × (l.here.0 < l.capacity) × (l.position < 256) × (near l.store l.capacity l.key l.left (steps - l.left) (to_branch l.here.0 l.position) ≡ near l.store l.capacity l.key (steps - l.fn.above) l.fn.above (to_branch l.fn.branch.0 l.fn.place))
 
 abbrev pub decreases-loop-left : goal.decreases-loop-left
 decreases-loop-left l = l.left

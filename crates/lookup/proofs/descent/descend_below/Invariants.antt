@@ -6,7 +6,7 @@ use Rattle.trie_spec.specs.Walk.{steps, step, first, walk, Within}
 use Rattle.lookup.proofs.descent.descend_below.Given as goal
 
 abbrev pub invariant-loop-left : goal.invariant-loop-left
-invariant-loop-left l = (l.left ≤ steps) × (l.number < l.capacity) × (l.position < 256) × Within l.capacity l.at × Within l.capacity l.above × (walk l.store l.capacity l.key l.stop l.left (step (to_branch l.number l.position) l.at l.above) ≡ walk l.store l.capacity l.key l.stop steps (first (to_branch l.fn.branch.0 l.fn.place)))
+invariant-loop-left l = (l.left ≤ steps) × (l.here.0 < l.capacity) × (l.position < 256) × Within l.capacity l.at × Within l.capacity l.above × (walk l.store l.capacity l.key l.stop l.left (step (to_branch l.here.0 l.position) l.at l.above) ≡ walk l.store l.capacity l.key l.stop steps (first (to_branch l.fn.branch.0 l.fn.place)))
 
 abbrev pub decreases-loop-left : goal.decreases-loop-left
 decreases-loop-left l = l.left

@@ -8,7 +8,7 @@ use Rattle.trie_spec.proofs.WalkLaws.{branch_room, leaf_below}
 use Rattle.walk.proofs.SheetLaws.{room_wrong, moved, room_moved}
 use Rattle.walk.proofs.WalkLaws.{emit_leaf, emit_deep, emit_empty, walk_end, walk_lost, walk_next, walk_stopped, whole_walk, next_below, next_leaf_below, left_falls}
 use Rattle.walk.proofs.walk.+emit.Goals as goal
-use Rattle.walk.proofs.walk.+emit.Goals.{in-Leaf-met, in-Branch-met}
+use Rattle.walk.proofs.walk.+emit.Goals.{in-Leaf-child, in-Branch-child}
 
 pub give-requires : goal.give-requires
 give-requires t c = search (leaf_below, rules)
@@ -40,14 +40,14 @@ emit-p-requires t c = (search (left_falls, rules), (search rules, search (next_b
 
 pub returns-then-stopped : goal.returns-then-stopped
 returns-then-stopped t c =
-    elim c.match-met.branch [
-      | in-Leaf-met w ↦ record {
+    elim c.match-next.branch [
+      | in-Leaf-child w ↦ record {
         is = whole_walk _ _ _ _ _ _ c.in-Branch.is _ c.child_count-count.ensures _ _ c.if-deep-eq0.false c.if-count-eq0.false
             (walk_stopped _ _ _ _ _ _ _ c.child_count-count.ensures _ _ c.loop-i.invariant.2 c.loop-i-test.true _ c.child_at.ensures
-            _ (c.in-Ok-Some.is ∙ ap Ok c.in-Ok-Some.field-0-is) _ _ (emit_leaf _ _ _ _ _ _ _ _ _ _ w.in-Leaf-met.is (moved _ _ _ _ _ w.out-is w.p-is w.give-p.ensures.is)) _ c.stopped.ensures c.if-stopped.true);
+            _ (c.in-Ok-Some.is ∙ ap Ok c.in-Ok-Some.field-0-is) _ _ (emit_leaf _ _ _ _ _ _ _ _ _ _ w.in-Leaf-child.is (moved _ _ _ _ _ w.out-is w.p-is w.give-p.ensures.is)) _ c.stopped.ensures c.if-stopped.true);
         room = room_moved _ _ _ _ w.out-is w.p-is w.give-p.ensures.room;
       }
-      | in-Branch-met w ↦ record {
+      | in-Branch-child w ↦ record {
         is = whole_walk _ _ _ _ _ _ c.in-Branch.is _ c.child_count-count.ensures _ _ c.if-deep-eq0.false c.if-count-eq0.false
             (walk_stopped _ _ _ _ _ _ _ c.child_count-count.ensures _ _ c.loop-i.invariant.2 c.loop-i-test.true _ c.child_at.ensures
             _ (c.in-Ok-Some.is ∙ ap Ok c.in-Ok-Some.field-0-is) _ _ (moved _ _ _ _ _ w.out-is w.p-is w.emit-p.ensures.is) _ c.stopped.ensures c.if-stopped.true);
@@ -57,14 +57,14 @@ returns-then-stopped t c =
 
 pub loop-i-preserved : goal.loop-i-preserved
 loop-i-preserved t c =
-    elim c.match-met.branch [
-      | in-Leaf-met w ↦ (
+    elim c.match-next.branch [
+      | in-Leaf-child w ↦ (
         room_moved _ _ _ _ w.out-is w.p-is w.give-p.ensures.room,
         search rules,
         walk_next _ _ _ _ _ _ _ c.child_count-count.ensures _ _ c.loop-i.invariant.2 c.loop-i-test.true _ c.child_at.ensures
-            _ (c.in-Ok-Some.is ∙ ap Ok c.in-Ok-Some.field-0-is) _ _ (emit_leaf _ _ _ _ _ _ _ _ _ _ w.in-Leaf-met.is (moved _ _ _ _ _ w.out-is w.p-is w.give-p.ensures.is)),
+            _ (c.in-Ok-Some.is ∙ ap Ok c.in-Ok-Some.field-0-is) _ _ (emit_leaf _ _ _ _ _ _ _ _ _ _ w.in-Leaf-child.is (moved _ _ _ _ _ w.out-is w.p-is w.give-p.ensures.is)),
       )
-      | in-Branch-met w ↦ (
+      | in-Branch-child w ↦ (
         room_moved _ _ _ _ w.out-is w.p-is w.emit-p.ensures.room,
         search rules,
         walk_next _ _ _ _ _ _ _ c.child_count-count.ensures _ _ c.loop-i.invariant.2 c.loop-i-test.true _ c.child_at.ensures

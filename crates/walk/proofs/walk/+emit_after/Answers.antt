@@ -2,7 +2,7 @@
 use mathlib.Core.Path.{ap, ◌∙◌}
 use Rattle.std.specs.Prelude.{Ok}
 use borrow.Author.Rules.{rules}
-use Rattle.trie_spec.proofs.WalkLaws.{branch_room, branch_below, leaf_below, link_below, slot_fits}
+use Rattle.trie_spec.proofs.WalkLaws.{branch_room, leaf_below, link_below, slot_fits}
 use Rattle.walk.proofs.SheetLaws.{room_wrong}
 use Rattle.walk.proofs.WalkLaws.{left_falls}
 use Rattle.walk.proofs.AfterLaws.{from_leaf, from_leaf_before, from_deep, from_past, from_past_before, from_absent, from_wrong, from_both, from_stopped}
@@ -35,20 +35,22 @@ returns-then-stopped t c = record {
   room = c.emit_after-p.ensures.room;
 }
 
-pub emit_from-requires : goal.emit_from-requires
-emit_from-requires t c =
-    (c.requires.0, c.requires.1, branch_below _ _ _ c.requires.1 c.in-Branch.is, slot_fits _ c.nibble-slot.ensures.slot, c.emit_after-p.ensures.room)
+pub child_place-place-requires : goal.child_place-place-requires
+child_place-place-requires t c = (search (branch_room, rules), search (slot_fits, rules))
 
-pub emit_from-requires-in-Ok-None : goal.emit_from-requires-in-Ok-None
-emit_from-requires-in-Ok-None t c = search (branch_below, slot_fits, rules)
+pub emit-requires-in-Ok-Some : goal.emit-requires-in-Ok-Some
+emit-requires-in-Ok-Some t c = (c.requires.0, c.requires.1, c.emit_after-p.ensures.room)
+
+pub child_place-place-requires-in-Ok-None : goal.child_place-place-requires-in-Ok-None
+child_place-place-requires-in-Ok-None t c = (search (branch_room, rules), search (slot_fits, rules))
 
 pub returns-else-up : goal.returns-else-up
 returns-else-up t c = record { is = search (from_leaf_before, rules); room = search rules }
 
 pub returns-else-stopped : goal.returns-else-stopped
 returns-else-stopped t c = record {
-  is = from_both _ _ _ _ _ _ _ _ _ _ c.in-Branch.is c.if-deep-eq0.false c.if-critical-position.false _ c.nibble-slot.ensures.value _ c.get_child.ensures _ (c.in-Ok-Some.is ∙ ap Ok c.in-Ok-Some.field-0-is) _ _ c.emit_after-p.ensures.is _ _ c.emit_from.ensures.is;
-  room = c.emit_from.ensures.room;
+  is = from_both _ _ _ _ _ _ _ _ _ _ c.in-Branch.is c.if-deep-eq0.false c.if-critical-position.false _ c.nibble-slot.ensures.value _ c.get_child.ensures _ (c.in-Ok-Some.is ∙ ap Ok c.in-Ok-Some.field-0-is) _ _ c.emit_after-p.ensures.is _ _ _ c.child_place-place.ensures.0 c.emit-in-Ok-Some.ensures.is;
+  room = c.emit-in-Ok-Some.ensures.room;
 }
 
 pub returns-in-Ok-None : goal.returns-in-Ok-None

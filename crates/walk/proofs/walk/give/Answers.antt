@@ -6,8 +6,8 @@ use Rattle.walk.proofs.walk.give.Goals as goal
 pub returns-then-stopped : goal.returns-then-stopped
 returns-then-stopped c = record { is = search (give_stopped, rules); room = search rules }
 
-pub returns-then-left-eq0 : goal.returns-then-left-eq0
-returns-then-left-eq0 c = record { is = search (give_further, rules); room = search rules }
+pub returns-then-p-eq0 : goal.returns-then-p-eq0
+returns-then-p-eq0 c = record { is = search (give_further, rules); room = search rules }
 
 pub returns : goal.returns
 returns c = record { is = search (give_written, rules); room = search (room_written, rules) }

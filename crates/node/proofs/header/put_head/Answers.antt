@@ -1,6 +1,6 @@
--- `node::header::put_numbers` meets its contract: the seven writes, one after the other, are one splice. Assumes nothing.
+-- `node::header::put_head` meets its contract: the seven writes, one after the other, are one splice. Assumes nothing.
 use Rattle.node.proofs.Contracts.{numbers_written}
-use Rattle.node.proofs.header.put_numbers.Goals as goal
+use Rattle.node.proofs.header.put_head.Goals as goal
 
 pub returns : goal.returns
 returns c =
