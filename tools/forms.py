@@ -158,7 +158,7 @@ def buffers():
     for path, lines in sources():
         for at, name, head, body in functions(lines):
             signature = " ".join(head)
-            if re.search(r"(out|key|line|buf|piece|page): &mut \[u8\]", signature) and re.search(r"-> (usize|Option<usize>|Decoded|Parsed|Held|Taken|Shown|Turn)\b", signature):
+            if re.search(r"(out|key|line|buf|piece|page): &mut \[u8\]", signature) and re.search(r"-> (usize|Option<usize>|Result<Parsed, LineError>|Result<usize, LineError>|Decoded|Parsed|Held|Taken|Shown|Turn)(?![\w>])", signature):
                 yield path, at, "fn %s fills the start of a slice and answers how much" % name
 
 

@@ -1,9 +1,9 @@
 // The well-formedness check of document 01, "A store that the check accepts": the header, the tree from the root on, and both chains of free records.
 //
-// Its cost is bounded by a small multiple of the records, whatever the bytes. The walk stops at the first thing that is wrong, and at the first leaf past as many
-// as the header counts: each node is told how many leaves may still be met, so that records that are shared cannot be walked again and again. A branch that the
-// walk has left has two children or more, so there are fewer of these than leaves met; those that it has not left stand on one path, of at most STEPS. A branch
-// costs its 17 slots and a comparison of two keys for each child. A chain is followed for as many steps as records are not in use.
+// Its cost is bounded by a small multiple of the records, whatever the bytes. The walk stops at the first thing that is wrong, and at the first leaf past as
+// many as the header counts: each node is told how many leaves may still be met, so that records that are shared cannot be walked again and again. A branch
+// that the walk has left has two children or more, so there are fewer of these than leaves met; those that it has not left stand on one path, of at most
+// STEPS. A branch costs its 17 slots and a comparison of two keys for each child. A chain is followed for as many steps as records are not in use.
 #![tactic(auto)]
 
 pub mod free;
@@ -32,7 +32,7 @@ fn records_right(store: &[u8], h: Header) -> bool
         && chain_free::<BranchNo>(store, h)
 }
 
-// Whether the store is accepted, by its bytes.
+// Whether the store is accepted, by its bytes: the definition is a Bool, of which no is the refusal.
 #[tactic(auto, using(audit_tree::proofs::Contracts::head_bad, audit_tree::proofs::Contracts::head_room, audit_tree::proofs::Contracts::head_good))]
 fn accepts(store: &[u8]) -> bool
     ensures { result ≡ accepts_in store.now }

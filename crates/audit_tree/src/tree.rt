@@ -1,7 +1,9 @@
 // The walk over the tree of records. A branch compares the first leaf of each child with the first leaf of all: the other leaves of a child agree with its
 // first one past the branch's position, by the child's own check. No mark is kept of the records met: in a picture none is reached twice.
 // That the capacity fits the store stands in each contract: `tree_right`, which docs/TRACE.md names, takes any store and number that fit, and a type with that
-// invariant would ask more of its callers; the private functions take what it has.
+// invariant would ask more of its callers. No struct of both for the private ones:
+// each `ensures` would name its two fields, and each call of `node`, which takes a store and a number, would take it apart.
+// A budget is a count of leaves, which a slice of bytes has no type for: that it is below 65,536 comes from the header's number in `tree_right`.
 ghost use Rattle.std.specs.Prelude.{◌≡◌, ◌-◌, ◌≤◌, ◌<◌, length};
 ghost use Rattle.node.specs.Layout.{start};
 ghost use Rattle.node.specs.Child.{number_in};

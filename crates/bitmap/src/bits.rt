@@ -1,5 +1,6 @@
-// A bitmap of 17 slots in a u32. Each contract says what the function does to the list of digits. A bitmap and a slot are plain numbers, for `present` and
-// `place`, which docs/TRACE.md names, promise on any u32: a type with the bound would ask more.
+// A bitmap of 17 slots in a u32. Each contract says what the function does to the list of digits. A bitmap is a plain number, for `present` and `place`,
+// which docs/TRACE.md names, promise on any u32, and a type with the bound would ask more. A slot is one for the sparse array's calls, which take any and
+// refuse those over 16.
 ghost use Rattle.std.specs.Prelude.{◌≡◌, false, true, ◌≤◌, ◌<◌, get_or, set, take};
 ghost use Rattle.bitmap.specs.Bits.{count as count_of, lowest as lowest_of, present as present_in};
 

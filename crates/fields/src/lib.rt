@@ -1,4 +1,5 @@
-// Bytes of a lent slice: moves within a slice, and the comparison of two byte strings. `little` and `big` have the numbers.
+// Bytes of a lent slice: moves within a slice, and the comparison of two byte strings. `little` and `big` have the numbers. That a slice is long enough
+// stands in each contract: a slice has no type for its least length.
 #![tactic(auto)]
 
 pub mod big;

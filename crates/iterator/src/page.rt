@@ -1,6 +1,8 @@
 // A page: one way down to where the keys with the prefix stand, one to the closest leaf to the key that the page begins at, and a walk over what is given.
-// That the capacity fits the store stands in each contract: `list`, which docs/TRACE.md names, takes any store and number that fit, and a type with that invariant
-// would ask more of its callers; the private functions take what it has.
+// That the capacity fits the store stands in each contract: `list`, which docs/TRACE.md names, takes any store and number that fit, and a type with that
+// invariant would ask more of its callers. No struct of both for the private ones:
+// each `ensures` would name its two fields, and each call of `node`, which takes a store and a number, would take it apart.
+// Prefix, bound and size go side by side: `list` takes them so, `list_past` has no use for the prefix, and each of the others hands most of them on.
 ghost use Rattle.std.specs.Prelude.{◌≡◌, ◌≤◌, ◌<◌, ◌*◌, length};
 ghost use Rattle.model.specs.Key.{key_limit, starts_with};
 ghost use Rattle.model.specs.Nibble.{critical as critical_of};
@@ -71,7 +73,7 @@ fn page_of(p: Progress, n: usize) -> Result<Page, NotAStore>
     }
 }
 
-// The model's word for it: the library's method speaks of tests of elements.
+// The model's word for it: of the library's method, which speaks of tests of elements, a law would have to say that it is the same.
 fn starts_with(prefix: &[u8], key: &[u8]) -> bool
     ensures { result ≡ starts_with prefix.now key.now }
 {

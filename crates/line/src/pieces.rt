@@ -6,7 +6,8 @@ ghost use Rattle.line.specs.Code.{LineIs, held_size, held_in, HeldIs, taken_in, 
 use crate::reading::{LINE_LIMIT, LineError, Parsed, parse_short};
 
 // What is held of the present line: so many bytes at the start of a lent buffer of LINE_LIMIT bytes; none where the line is too long. The buffer stands
-// beside it, since memory is fixed, and contracts say that the count is 200 at most: a struct with that as a ghost field would wrap the Option, without `?`.
+// beside it, since memory is fixed. Contracts say that the count is 200 at most: a struct of the count with that as a ghost field would be taken apart at
+// each use of the number, and `HeldIs`, `TakenIs`, `Turned` and `Fed` speak of the number.
 pub type Held = Option<usize>;
 
 // One byte more, which is no newline.

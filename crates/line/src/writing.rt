@@ -36,7 +36,7 @@ pub fn put_key(key: &[u8], out: &mut [u8]) -> usize
     2 * key.len()
 }
 
-// A number in at most so many digits.
+// A number in at most so many digits: a recursion, as `digits_text` is, since the highest digit is written first and found last.
 fn put_digits(places: usize, value: u32, out: &mut [u8]) -> usize
     requires { places ≤ length out.old }
     ensures { Wrote (digits_text places value) out.old out.new result }

@@ -27,7 +27,8 @@ pub const OUTPUT_ROOM: usize = LINES_ROOM + 11;
 // The entries that a page is asked for.
 const PAGE: usize = 16;
 
-// The lines of the first `count` entries of a page, each written directly after the one before it.
+// The lines of the first `count` entries of a page, each written directly after the one before it: a recursion, as `page_text` is, since an entry's size tells
+// where the next one stands.
 fn put_lines(count: usize, page: &[u8], out: &mut [u8]) -> usize
     requires { (74 * count ≤ length page.now) × (141 * count ≤ length out.old) }
     ensures { Wrote (page_text count page.now) out.old out.new result }

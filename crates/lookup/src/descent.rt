@@ -1,8 +1,9 @@
 // The descents. A descent ends at a leaf, at a branch from a stop position on, at a missing slot or at the last step: past the last position it is the
 // exact descent, and past the critical position it finds the place of an insertion. The closest descent goes to the lowest slot where one is missing.
-// That the capacity fits the store stands in each contract: `descend`, `find_closest_leaf` and `find_near`, which docs/TRACE.md names, take any store and number
-// that fit, and a type with that invariant would ask more of their callers; the private functions take what these have. `number_in .. < capacity` stands beside
-// it: a link's number is tested against a capacity that is no part of the link.
+// That the capacity fits the store stands in each contract: `descend`, `find_closest_leaf` and `find_near`, which docs/TRACE.md names, take any store and
+// number that fit, and a type with that invariant would ask more of their callers. No struct of both for the private ones:
+// each `ensures` would name its two fields, and each call of `node`, which takes a store and a number, would take it apart. `number_in
+// .. < capacity` stands beside it: a link's number is tested against a capacity that is no part of the link.
 ghost use Rattle.std.specs.Prelude.{◌≡◌, ◌≤◌, ◌<◌, ◌-◌, length};
 ghost use Rattle.node.specs.Layout.{start};
 ghost use Rattle.node.specs.Child.{number_in, to_branch};
@@ -124,6 +125,7 @@ pub fn descend(
 }
 
 // From a branch with so many above it.
+// The loop's form: see `descend_below`.
 fn closest_from(
     store: &[u8],
     capacity: u16,
@@ -191,6 +193,7 @@ pub fn find_closest_leaf(
 }
 
 // The way down by the key's nibbles, as far as it goes, with the highest position on it: every descent to a position past that one ends where it does.
+// The loop's form: see `descend_below`.
 fn way_below(
     store: &[u8],
     capacity: u16,

@@ -1,7 +1,8 @@
 // Exact lookup: one descent, and the leaf's key compared.
-// That the capacity fits the store stands in each contract: `find_exact_leaf` and `find_leaf`, which docs/TRACE.md names, take any store and number that fit, and a
-// type with that invariant would ask more of their callers; the private functions take what these have. `number_in .. < capacity` stands beside it: a link's number
-// is tested against a capacity that is no part of the link.
+// That the capacity fits the store stands in each contract: `find_exact_leaf` and `find_leaf`, which docs/TRACE.md names, take any store and number that fit,
+// and a type with that invariant would ask more of their callers. No struct of both for the private ones:
+// each `ensures` would name its two fields, and each call of `node`, which takes a store and a number, would take it apart. `number_in
+// .. < capacity` stands beside it: a link's number is tested against a capacity that is no part of the link.
 ghost use Rattle.std.specs.Prelude.{◌≡◌, ◌≤◌, ◌<◌, length};
 ghost use Rattle.node.specs.Layout.{start};
 ghost use Rattle.node.specs.Child.{number_in, to_branch};

@@ -61,7 +61,7 @@ fn code_of(child: Child) -> u32
     }
 }
 
-// The item of a link.
+// The item of a link. A number has no bound in its type: one that is read from a store is tested against its capacity, which differs from store to store.
 pub fn item_of(link: Link) -> u32
     requires { number_in link.child < most }
     ensures { (result ≡ item_of link) × (result < 16777216) }

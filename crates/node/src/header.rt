@@ -1,5 +1,5 @@
 // The header: a mark with the layout's version, and seven numbers. It goes in and out by value: a call reads it once, works on the numbers, and
-// writes them back once.
+// writes them back once. That the store is as long as a header stands in the contracts: a slice has no type for its least length.
 ghost use Rattle.std.specs.Prelude.{◌≡◌, ◌≤◌, length};
 ghost use Rattle.model.specs.Numbers.{header_size};
 ghost use Rattle.node.specs.Header.{head_in, head_of, set_head, set_mark};

@@ -1,5 +1,5 @@
-// Each call's answer as a number, as document 01's table numbers it, and what stands beside it: C has no Result, and bindings/c/ponybollard.h has these numbers.
-// A `From` for u32 would have to stand in the errors' own crates, which know nothing of C.
+// Each call's answer as a number, as document 01's table numbers it, and what stands beside it: C has no Result, and bindings/c/ponybollard.h has these
+// numbers. A `From` for u32 would have to stand in the errors' own crates, which know nothing of C, and one for a mode of C's yes or no in `index_spec`.
 ghost use Rattle.std.specs.Prelude.{ℕ, ◌≡◌};
 ghost use Rattle.index_spec.specs.Replies.{insert_reply, get_reply, page_reply};
 ghost use Rattle.numbers.specs.Handed.{answered, room_number, store_number, insert_number as insert_refusal, lookup_number, page_number, found_empty, mode_named};

@@ -28,7 +28,8 @@ fn count_wrong(n: u32, room: usize) -> bool
     n == 0 || PAGE_LIMIT < n || room < ENTRY_LIMIT * (n as usize)
 }
 
-// Whether one key lies below another: by their critical position, of which the laws of the tree's order speak, and not by the library's order of slices.
+// Whether one key lies below another: by their critical position, of which the laws of the tree's order speak, where of the library's order of slices a law
+// would have to say that it is theirs.
 fn is_below(a: &[u8], b: &[u8]) -> bool
     requires { length a.now ≤ key_limit }
     ensures { result ≡ follows (after_key a.now) b.now }

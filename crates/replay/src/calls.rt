@@ -1,5 +1,5 @@
 // The records of a script carried out on a store of raw bytes, which is the first `len` bytes of the space `all`, each answer put behind those before it. The
-// space, the room for a page and the output go side by side: of a struct that holds all three no two parts can be lent to one call.
+// space, the room for a page and the output go side by side: tried as one struct: the borrow checker does not cover a call that is lent two parts of it.
 use crate::input::{Asked, Record, part};
 use crate::output::Output;
 use crate::space::{GUARD, hash, write};

@@ -43,7 +43,7 @@ impl<'a> Output<'a> {
         self.put1(low(u64::from(answer)));
     }
 
-    // The low bytes of a number, so many, the lowest first.
+    // The low bytes of a number, so many, the lowest first: byte by byte, since an output that is nearly full takes what it has room for.
     pub fn put<const N: usize>(&mut self, x: u64) {
         let mut rest = x;
         for _ in 0..N {

@@ -1,6 +1,7 @@
 // The port of sparse_array.rs: a sparse array of 17 slots over a lent part of 55 bytes, a bitmap of 4 bytes and then the items, 3 bytes each, packed.
 // The place of a slot is the number of present slots below it. Every function takes any 55 bytes. They come as a slice and not as an array: of a
-// `&mut [u8; 55]` out of a part of a store (`as_mut_array`) a proof learns, once it has come back, no more than its length.
+// `&mut [u8; 55]` out of a part of a store (`as_mut_array`) a proof learns, once it has come back, no more than its length. The functions that
+// only read take what the writers take, so that one part of a store serves both.
 #![tactic(auto)]
 
 mod items;
@@ -13,8 +14,8 @@ ghost use Rattle.sparse_array.specs.Answers.{got, got_or_head, here, placed, Was
 use bitmap::bits::{count, lowest, place, present, with, without};
 use items::{bitmap, close, item, open, put_bitmap, put_item};
 
-// A store of an item is new at its slot, or over the one that is there. `Inserted` of trie_spec has the same two: the docs name both, and an array knows nothing
-// of a trie.
+// A store of an item is new at its slot, or over the one that is there. `Inserted` of trie_spec has the same two: the docs name both, and an array knows
+// nothing of a trie.
 #[derive(Clone, Copy, Debug, PartialEq, Eq)]
 pub enum Put {
     New,

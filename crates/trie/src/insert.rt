@@ -1,7 +1,8 @@
 // Insertion: the closest leaf, the critical position, and, where its end is not known by then, a second descent to where the new leaf goes.
-// That the capacity fits the store stands in each contract: `insert`, which docs/TRACE.md names, takes any store and number that fit, and a type with that invariant
-// would ask more of its callers; the private functions take what it has. The store is written, and named before and after, so that it is no part of `Entry`: the
-// fact would have to be proved again after each write.
+// That the capacity fits the store stands in each contract: `insert`, which docs/TRACE.md names, takes any store and number that fit, and a type with that
+// invariant would ask more of its callers; the private functions take what it has. The store is written, and named before and after, so that it is no part of
+// `Entry`: the fact would have to be proved again after each write. Nor is what `EndsAt` and `Lies` say of the bytes an invariant of `Near`, which lookup
+// answers with.
 ghost use Rattle.std.specs.Prelude.{◌≡◌, ◌≤◌, ◌<◌, length, ◌≢◌};
 ghost use Rattle.model.specs.Key.{key_limit};
 ghost use Rattle.model.specs.Numbers.{most};

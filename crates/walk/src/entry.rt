@@ -35,7 +35,7 @@ fn put_head(out: &mut [u8], at: usize, tag: u8, size: u16)
     write::<2>(out, at + 1, size as u32);
 }
 
-// The entry of a leaf goes to the start of the output. The answer is its size: there is no heap, and a page is lent by the caller.
+// The entry of a leaf goes to the start of the output. The answer is its size: with no heap the entry goes into lent bytes.
 pub fn write_entry(store: &[u8], leaf: LeafNo, out: &mut [u8]) -> usize
     requires { (Room store.now leaf.0) × (entry_limit ≤ length out.old) }
     ensures bytes { out.new ≡ splice out.old 0 (entry_bytes (entry_in store.now leaf.0)) }

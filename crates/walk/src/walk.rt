@@ -1,9 +1,10 @@
-// The walk over what a page gives. It stops at the first entry past those that are wanted, and at the first thing that is wrong. So whatever the bytes, each way
-// down ends at an entry that is given or ends the walk, but for the one to the key that the page begins at; and a page costs no more than its entries and two
-// more, each with the branches above it.
-// That the capacity fits the store stands in each contract: `emit` and `emit_after`, which docs/TRACE.md names, take any store and number that fit, and a type with
-// that invariant would ask more of their callers; the private functions take what these have. `number_in .. < capacity` stands beside it: a link's number is tested
-// against a capacity that is no part of the link.
+// The walk over what a page gives. It stops at the first entry past those that are wanted, and at the first thing that is wrong. So whatever the bytes, each
+// way down ends at an entry that is given or ends the walk, but for the one to the key that the page begins at; and a page costs no more than its entries and
+// two more, each with the branches above it.
+// That the capacity fits the store stands in each contract: `emit` and `emit_after`, which docs/TRACE.md names, take any store and number that fit, and a
+// type with that invariant would ask more of their callers. No struct of both for the private ones:
+// each `ensures` would name its two fields, and each call of `node`, which takes a store and a number, would take it apart. `number_in
+// .. < capacity` stands beside it: a link's number is tested against a capacity that is no part of the link.
 ghost use Rattle.std.specs.Prelude.{◌≡◌, ◌≤◌, ◌<◌, length};
 ghost use Rattle.std.proofs.Math.Option.{some};
 ghost use Rattle.node.specs.Layout.{start};
@@ -122,9 +123,9 @@ pub fn emit(
     }
 }
 
-// The entries below a link from a key on, which need not be stored. `critical` is the key's critical position with the closest leaf to it, and `up` says whether
-// that leaf is given. Down to that position the leaves agree with the key, so the slots below its nibble lie before it and those above it lie past it; what
-// stands past that position lies with the closest leaf.
+// The entries below a link from a key on, which need not be stored. `critical` is the key's critical position with the closest leaf to it, and `up` says
+// whether that leaf is given. Down to that position the leaves agree with the key, so the slots below its nibble lie before it and those above it lie past
+// it; what stands past that position lies with the closest leaf.
 pub fn emit_after(
     store: &[u8],
     capacity: u16,
