@@ -48,11 +48,11 @@ module _ (st : List ℕ) (cap left low budget : ℕ) (link : Link) where
       go (suc f) = rw e
 
   module _ (b : BranchNo) (e : link.child ≡ Branch b) where
-    node_deep : left ≡ 0 → None ≡ seen st cap left low budget link
+    pub node_deep : left ≡ 0 → None ≡ seen st cap left low budget link
     unfolding seen
     node_deep z = rw (z, e)
 
-    node_low : (left ≡ 0 → ⊥) → link.position < low → None ≡ seen st cap left low budget link
+    pub node_low : (left ≡ 0 → ⊥) → link.position < low → None ≡ seen st cap left low budget link
     unfolding seen
     node_low ne h = go left ne
       where

@@ -1,16 +1,21 @@
 -- What two byte strings have in common from the front: they agree up to there, differ there, and are equal exactly if it is all of both.
 -- Assumes nothing.
-use mathlib.Core.Path.{◌≡◌, refl, ap, sym}
-use mathlib.Core.Bool.{Bool, true, false, cond}
+use mathlib.Core.Path.{◌≡◌, refl, ap, sym, ◌∙◌}
+use mathlib.Core.Bool.{Bool, true, false, cond, false≢true}
 use mathlib.Core.List.{List, [], ◌∷◌}
-use Prim.Native.Nat.{ℕ, min, zero, suc, ◌≤◌, ◌<◌}
+use Prim.Native.Nat.{ℕ, min, zero, suc, ◌+◌, ◌≤◌, ◌<◌}
 use native.Mathlib.Nat.{le_of_suc-le-suc}
 use native.Mathlib.Omega.{arith}
 use lib.Dec.{eqb}
+use native.Mathlib.Decide.{dec_lt}
+use mir.Val.{Fits}
+use mir.Syntax.{w8}
 use lib.ListN.{length, get_or}
 use lib.Seq.{ext_get_or}
 use borrow.Author.Tests.{eqb-true, eqb-false, eq-eqb, ne_eqb}
-use Rattle.fields.specs.Common.{common}
+use Rattle.fields.specs.Common.{common, Says, Agree}
+use Rattle.fields.specs.Number.{little}
+use Rattle.fields.proofs.NumberLaws.{little_one, little_alike}
 
 pub common_first : (xs ys : List ℕ) → common xs ys ≤ length xs
 unfolding common
@@ -86,3 +91,41 @@ module _ (xs ys : List ℕ) (i : ℕ) (a : AgreeBelow xs ys i) where
 
   pub one_ended : i ≡ min (length xs) (length ys) → i ≡ common xs ys
   one_ended e = common_is xs ys i (omega arith) (omega arith) a (λ m n f. omega arith)
+
+-- ---- the comparisons for equality: bytes one by one, and eight as one number
+
+module _ (xs ys : List ℕ) where
+  pub agree_none : AgreeBelow xs ys 0
+  agree_none i h = absurd (omega arith)
+
+  pub byte_differs : (i : ℕ) → (get_or xs i 0 ≡ get_or ys i 0 → ⊥) → xs ≡ ys → ⊥
+  byte_differs i d q = d (ap (λ (zs : List ℕ). get_or zs i 0) q)
+
+  pub agree_all : (i : ℕ) → length xs ≡ length ys → length xs ≤ i → AgreeBelow xs ys i → xs ≡ ys
+  agree_all i l k a = ext_get_or 0 xs ys l (λ j m. a j (omega arith))
+
+  pub eight_says : (at x y : ℕ) (r : Bool) → x ≡ little 8 xs at → y ≡ little 8 ys at → ((i : ℕ) → Fits w8 (get_or xs i 0)) → ((i : ℕ) → Fits w8 (get_or ys i 0)) → r ≡ eqb x y
+      → Says r (Agree xs ys at 8)
+  eight_says at x y true p q f g e = little_one 8 xs ys at f g (sym p ∙ eqb-true x y (sym e) ∙ q)
+  eight_says at x y false p q f g e = λ a. eqb-false x y (sym e) (p ∙ little_alike 8 xs ys at a ∙ sym q)
+
+  pub eight_differs : (at : ℕ) (f : Bool) → Says f (Agree xs ys at 8) → f ≡ false → xs ≡ ys → ⊥
+  eight_differs at true d e q = absurd (false≢true (sym e))
+  eight_differs at false d e q = d (λ i h k. ap (λ (zs : List ℕ). get_or zs i 0) q)
+
+  pub eight_more : (i : ℕ) (f : Bool) → AgreeBelow xs ys i → Says f (Agree xs ys i 8) → f ≡ true → AgreeBelow xs ys (i + 8)
+  eight_more i true a b e j h = go (dec_lt j i)
+    where
+      go : Dec (j < i) → get_or xs j 0 ≡ get_or ys j 0
+      go (yes l) = a j l
+      go (no l) = b j (omega arith) h
+  eight_more i false a b e j h = absurd (false≢true e)
+
+  -- the last eight may overlap with those before them
+  pub eight_last : (last i : ℕ) (f : Bool) → length xs ≡ last + 8 → length ys ≡ length xs → last ≤ i → AgreeBelow xs ys i → Says f (Agree xs ys last 8) → Says f (xs ≡ ys)
+  eight_last last i true e l h a b = ext_get_or 0 xs ys (sym l) (λ j m. go j m (dec_lt j i))
+    where
+      go : (j : ℕ) → j < length xs → Dec (j < i) → get_or xs j 0 ≡ get_or ys j 0
+      go j m (yes k) = a j k
+      go j m (no k) = b j (omega arith) (omega arith)
+  eight_last last i false e l h a b = eight_differs last false b refl

@@ -209,6 +209,9 @@ pub little_one : (w : ℕ) (xs ys : List ℕ) (at : ℕ) → ((i : ℕ) → Fits
 unfolding little
 little_one w xs ys at f g e = value_one w xs ys at (λ i. (f i).fits) (λ i. (g i).fits) e
 
+pub little_alike : (w : ℕ) (xs ys : List ℕ) (at : ℕ) → Agree xs ys at w → little w xs at ≡ little w ys at
+little_alike w xs ys at a = little_agree w xs ys at at (λ i l. a (at + i) (omega arith) (omega arith))
+
 -- ---- the widths in use: what a read computes from the bytes
 
 module _ (xs : List ℕ) (at : ℕ) where
@@ -223,3 +226,18 @@ module _ (xs : List ℕ) (at : ℕ) where
   pub little_four : little 4 xs at ≡ get_or xs at 0 + get_or xs (at + 1) 0 * 256 + get_or xs (at + 2) 0 * 65536 + get_or xs (at + 3) 0 * 16777216
   unfolding little value bytes_at
   little_four = rw (add-one, add-two, add-three) (omega arith)
+
+  pub little_eight : little 8 xs at ≡ little 4 xs at + little 4 xs (at + 4) * 4294967296
+  unfolding little value bytes_at
+  little_eight = let e : at + 4 ≡ suc (suc (suc (suc at))) = omega arith in rw e (omega arith)
+
+-- ---- and what four stores store
+
+module _ (xs : List ℕ) (at v : ℕ) where
+  pub stored_four : v < 4294967296
+      → splice xs at (little_bytes 4 v) ≡ set (set (set (set xs at (v % 256)) (at + 1) (v / 256 % 256)) (at + 2) (v / 65536 % 256)) (at + 3) (v / 16777216)
+  unfolding splice little_bytes
+  stored_four h =
+      let d : v / 256 / 256 % 256 ≡ v / 65536 % 256 = omega arith in
+      let e : v / 256 / 256 / 256 % 256 ≡ v / 16777216 = omega arith in
+      rw (add-one, add-two, add-three, d, e)

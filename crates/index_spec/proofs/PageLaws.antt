@@ -7,7 +7,7 @@ use native.Mathlib.Omega.{arith}
 use lib.Dec.{eqb, ltb}
 use lib.ListN.{length, take, drop}
 use lib.Seq.{sets-eq}
-use borrow.Author.Tests.{lt-ltb, le-ltb, ltb-false}
+use borrow.Author.Tests.{eq-eqb, ne_eqb, lt-ltb, le-ltb, ltb-false}
 use Rattle.model.specs.Key.{key_limit, IsKey, order}
 use Rattle.model.specs.Map.{Entry, All, choose}
 use Rattle.model.specs.Nibble.{nibble, critical}
@@ -47,6 +47,15 @@ use Rattle.iterator.specs.declared.page.Page.{Page}
 -- ---- the inner functions
 
 module _ (n room : ℕ) where
+  pub count_none : n ≡ 0 → true ≡ count_wrong n room
+  count_none e = rw (eq-eqb n 0 e)
+
+  pub count_many : (n ≡ 0 → ⊥) → page_limit < n → true ≡ count_wrong n room
+  count_many d h = rw (ne_eqb n 0 d, lt-ltb page_limit n h)
+
+  pub count_room : (n ≡ 0 → ⊥) → n ≤ page_limit → ltb room (entry_limit * n) ≡ count_wrong n room
+  count_room d h = rw (ne_eqb n 0 d, le-ltb page_limit n h)
+
   -- what a right count gives
   pub room_enough : (b : Bool) → b ≡ count_wrong n room → b ≡ false → entry_limit * n ≤ room
   room_enough b e f = go (eqb n 0) (ltb page_limit n) (ltb room (entry_limit * n)) refl (sym e ∙ f)
@@ -56,6 +65,9 @@ module _ (n room : ℕ) where
       go false true z q w = absurd (let v : ◌≡◌ {A = ℕ} 0 1 = cc in omega arith)
       go false false true q w = absurd (let v : ◌≡◌ {A = ℕ} 0 1 = cc in omega arith)
       go false false false q w = ltb-false room (entry_limit * n) q
+
+pub named_page_lem : (x : Result Page NotAStore) (p : Page) → x ≡ Ok p → Ok p ≡ paged_of x
+named_page_lem x p q = ap paged_of (sym q)
 
 pub below_is : (a b : List ℕ) (c x y : ℕ) → c ≡ critical a b → x ≡ nibble a c → y ≡ nibble b c → ltb x y ≡ follows (after_key a) b
 below_is a b c x y e ex ey =
@@ -77,7 +89,13 @@ module _ (long : Bool) (q : List ℕ) (mode : Mode) (from : From) (n : ℕ) (st 
   is_bad b = rw (← p, b) (refl, refl)
 
   module _ (h : Header) (g : x ≡ Ok h) where
+    is_long : long ≡ true → Did (page_call long q mode from n st out) (Err PageError.Key) out
+    is_long l = rw (← p, g, l) (refl, refl)
+
     module _ (short : long ≡ false) (b : Bool) (wrong : b ≡ count_wrong n (length out)) where
+      is_count : b ≡ true → Did (page_call long q mode from n st out) (Err PageError.Count) out
+      is_count e = rw (← p, g, short, ← wrong, e) (refl, refl)
+
       is_done : (z : Result Page NotAStore) (r : Result Page PageError) (out' : List ℕ) → b ≡ false → Did (page_in st h q mode from n out) z out' → r ≡ paged_of z → Did (page_call long q mode from n st out) r out'
       is_done z r out' e d i = rw (← p, g, short, ← wrong, e) (i ∙ ap paged_of d.0, d.1)
 
@@ -200,15 +218,27 @@ module _ (q : List ℕ) (mode : Mode) (n : ℕ) (st out : List ℕ) (x : Result 
     pub first_long : key_limit < length q → FirstPage layout q (mode_of mode) n st out out (page_reply (Err PageError.Key))
     first_long l = pages_key q mode start n st out x h p g (rw (too_long_lem q l))
 
+    pub first_is_long : key_limit < length q → Did (first_call q mode n st out) (Err PageError.Key) out
+    first_is_long l = is_long (too_long q) q mode start n st out x p h g (too_long_lem q l)
+
     pub next_long : (a : List ℕ) → key_limit < length q → NextPage layout q (mode_of mode) a n st out out (page_reply (Err PageError.Key))
     next_long a l = pages_key q mode (after_key a) n st out x h p g (rw (too_long_lem q l))
+
+    pub next_is_long : (a : List ℕ) → key_limit < length q → Did (next_call q mode a n st out) (Err PageError.Key) out
+    next_is_long a l = is_long (too_long q || too_long a) q mode (after_key a) n st out x p h g (rw (too_long_lem q l))
 
     pub after_long : (a : List ℕ) → key_limit < length a → NextPage layout q (mode_of mode) a n st out out (page_reply (Err PageError.Key))
     after_long a l = pages_key q mode (after_key a) n st out x h p g (either_long q a l)
 
+    pub after_is_long : (a : List ℕ) → key_limit < length a → Did (next_call q mode a n st out) (Err PageError.Key) out
+    after_is_long a l = is_long (too_long q || too_long a) q mode (after_key a) n st out x p h g (either_long q a l)
+
     module _ (short : length q ≤ key_limit) (b : Bool) (wrong : b ≡ count_wrong n (length out)) where
       pub first_count : b ≡ true → FirstPage layout q (mode_of mode) n st out out (page_reply (Err PageError.Count))
       first_count e = pages_count q mode start n st out x h p g (start_short q short) (sym wrong ∙ e)
+
+      pub first_is_count : b ≡ true → Did (first_call q mode n st out) (Err PageError.Count) out
+      first_is_count e = is_count (too_long q) q mode start n st out x p h g (not_too_long q short) b wrong e
 
       module _ (right : b ≡ false) (t : Bool) (inclusive-is : t ≡ is_inclusive mode) (z : Result Page NotAStore) (r : Result Page PageError) (out' : List ℕ) (d : Did (list_in st h q q t n out) z out') (i : r ≡ paged_of z) where
         begins : Did (page_in st h q mode start n out) z out'
@@ -227,6 +257,9 @@ module _ (q : List ℕ) (mode : Mode) (n : ℕ) (st out : List ℕ) (x : Result 
       module _ (a : List ℕ) (short-after : length a ≤ key_limit) where
         pub next_count : b ≡ true → NextPage layout q (mode_of mode) a n st out out (page_reply (Err PageError.Count))
         next_count e = pages_count q mode (after_key a) n st out x h p g (both_short q a short short-after) (sym wrong ∙ e)
+
+        pub next_is_count : b ≡ true → Did (next_call q mode a n st out) (Err PageError.Count) out
+        next_is_count e = is_count (too_long q || too_long a) q mode (after_key a) n st out x p h g (both_short q a short short-after) b wrong e
 
         module _ (right : b ≡ false) (z : Result Page NotAStore) (r : Result Page PageError) (out' : List ℕ) (d : Did (next_in st h q mode a n out) z out') (i : r ≡ paged_of z) where
           pub next_done : NextPage layout q (mode_of mode) a n st out out' (page_reply r)

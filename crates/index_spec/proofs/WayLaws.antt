@@ -11,7 +11,7 @@ use borrow.Author.Tests.{le-leb, lt-leb}
 use Rattle.model.specs.Key.{key_limit}
 use Rattle.model.specs.Numbers.{least_size}
 use Rattle.model.specs.Picture.{too_long}
-use Rattle.node.specs.Header.{head_of}
+use Rattle.node.specs.Header.{head_of, set_head}
 use Rattle.records.specs.Create.{made_of, created, Created}
 use Rattle.node.specs.declared.header.Header.{Header}
 use Rattle.trie_spec.specs.Writes.{Outcome, outcome, Did, insert_in, remove_under}
@@ -20,7 +20,8 @@ use Rattle.node.specs.Leaf.{leaf_in, set_value}
 use Rattle.node.specs.declared.child.LeafNo.{LeafNo}
 use Rattle.trie_spec.specs.Find.{find_in, leaf_of, found_at}
 use Rattle.trie_spec.specs.declared.descent.Step.{Step}
-use Rattle.index_spec.specs.Replies.{inserted_of}
+use Rattle.index_spec.specs.Layout.{with_limit}
+use Rattle.index_spec.specs.Replies.{empty_of, inserted_of}
 use Rattle.index_spec.specs.Calls.{behind, create_call, empty_call, limit_call, inserted_in, insert_call, refused_get, got_of, got_in, get_call, refused_overwrite, refused_change, overwritten, overwritten_in, overwrite_call, removed_of, removed, removed_in, remove_call}
 use Rattle.std.specs.Prelude.{Result, Ok, Err, Some, None}
 use Rattle.trie_spec.specs.Find.{Exact, Found}
@@ -70,9 +71,15 @@ module _ (st : List ℕ) (x : Result Header NotAStore) (p : x ≡ head_of st) wh
   pub empty_is_bad : x ≡ Err not_a_store → Err not_a_store ≡ empty_call st
   empty_is_bad b = rw (← p, b)
 
+  pub empty_is_done : (h : Header) (r : Result Bool NotAStore) → x ≡ Ok h → r ≡ Ok (empty_of h.leaves) → r ≡ empty_call st
+  empty_is_done h r g q = q ∙ rw (← p, g)
+
   module _ (limit : ℕ) where
     pub limit_is_bad : x ≡ Err not_a_store → Did (limit_call limit st) (Err not_a_store) st
     limit_is_bad b = rw (← p, b) (refl, refl)
+
+    pub limit_is_done : (h : Header) (st' : List ℕ) → x ≡ Ok h → st' ≡ set_head st (with_limit h limit) → Did (limit_call limit st) (Ok tt) st'
+    limit_is_done h st' g q = rw (← p, g) (refl, q)
 
 -- ---- the calls with a key
 
@@ -90,13 +97,31 @@ module _ (k st : List ℕ) (x : Result Header NotAStore) (p : x ≡ head_of st) 
   remove_is_bad b = did _ _ (behind_bad (outcome (Err LookupError.Store) st) (outcome (Err LookupError.Key) st) (λ h. removed_in st h k) st k x p b) (refl, refl)
 
   module _ (h : Header) (g : x ≡ Ok h) (long : key_limit < length k) where
+    pub get_is_long : Err LookupError.Key ≡ get_call k st
+    get_is_long = sym (behind_long (Err LookupError.Store) (Err LookupError.Key) (λ h. got_in st h k) st k x p h g long)
+
     pub insert_is_long : (v : ℕ) → Did (insert_call k v st) (Err InsertError.Key) st
     insert_is_long v = did _ _ (behind_long (outcome (Err InsertError.Store) st) (outcome (Err InsertError.Key) st) (λ h. inserted_in st h k v) st k x p h g long) (refl, refl)
 
+    pub overwrite_is_long : (v : ℕ) → Did (overwrite_call k v st) (Err LookupError.Key) st
+    overwrite_is_long v = did _ _ (behind_long (outcome (Err LookupError.Store) st) (outcome (Err LookupError.Key) st) (λ h. overwritten_in st h k v) st k x p h g long) (refl, refl)
+
+    pub remove_is_long : Did (remove_call k st) (Err LookupError.Key) st
+    remove_is_long = did _ _ (behind_long (outcome (Err LookupError.Store) st) (outcome (Err LookupError.Key) st) (λ h. removed_in st h k) st k x p h g long) (refl, refl)
+
   module _ (h : Header) (g : x ≡ Ok h) (short : length k ≤ key_limit) where
+    pub get_is_done : (r : Result ℕ LookupError) → r ≡ got_in st h k → r ≡ get_call k st
+    get_is_done r d = d ∙ sym (behind_short (Err LookupError.Store) (Err LookupError.Key) (λ h. got_in st h k) st k x p h g short)
+
     pub insert_is_done : (v : ℕ) (st' : List ℕ) (q : Put) (r : Result Inserted InsertError) → Did (insert_in st h k v) q st' → r ≡ inserted_of q → Did (insert_call k v st) r st'
     insert_is_done v st' q r d n =
         did _ _ (behind_short (outcome (Err InsertError.Store) st) (outcome (Err InsertError.Key) st) (λ h. inserted_in st h k v) st k x p h g short) (n ∙ ap inserted_of d.0, d.1)
+
+    pub overwrite_is_done : (v : ℕ) (st' : List ℕ) (r : Result (Unit {0}) LookupError) → Did (overwritten_in st h k v) r st' → Did (overwrite_call k v st) r st'
+    overwrite_is_done v st' r d = did _ _ (behind_short (outcome (Err LookupError.Store) st) (outcome (Err LookupError.Key) st) (λ h. overwritten_in st h k v) st k x p h g short) d
+
+    pub remove_is_done : (st' : List ℕ) (r : Result (Unit {0}) LookupError) → Did (removed_in st h k) r st' → Did (remove_call k st) r st'
+    remove_is_done st' r d = did _ _ (behind_short (outcome (Err LookupError.Store) st) (outcome (Err LookupError.Key) st) (λ h. removed_in st h k) st k x p h g short) d
 
 -- ---- what a lookup found
 

@@ -5,10 +5,10 @@ ghost use Rattle.index_spec.specs.Layout.{layout};
 ghost use Rattle.index_spec.specs.Replies.{insert_reply};
 ghost use Rattle.index_spec.specs.Calls.{insert_call};
 
-use index_spec::insert::InsertError;
+pub use index_spec::insert::InsertError;
 use node::header::read_head;
 use node::layout::KEY_LIMIT;
-use trie_spec::insert::Inserted;
+pub use trie_spec::insert::Inserted;
 
 pub fn insert(store: &mut [u8], key: &[u8], value: u32) -> Result<Inserted, InsertError>
     ensures promise { Insert layout key.now value store.old store.new (insert_reply result) }

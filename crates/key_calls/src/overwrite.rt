@@ -9,7 +9,7 @@ ghost use Rattle.index_spec.specs.Layout.{layout};
 ghost use Rattle.index_spec.specs.Replies.{changed_reply};
 ghost use Rattle.index_spec.specs.Calls.{overwritten_in, overwrite_call};
 
-use index_spec::stored::LookupError;
+pub use index_spec::stored::LookupError;
 use lookup::find::find_leaf;
 use node::header::{Header, read_head};
 use node::layout::KEY_LIMIT;

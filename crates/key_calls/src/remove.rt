@@ -10,7 +10,7 @@ ghost use Rattle.index_spec.specs.Layout.{layout};
 ghost use Rattle.index_spec.specs.Replies.{changed_reply};
 ghost use Rattle.index_spec.specs.Calls.{removed_in, remove_call};
 
-use index_spec::stored::LookupError;
+pub use index_spec::stored::LookupError;
 use lookup::find::find_exact_leaf;
 use node::header::{Header, read_head};
 use node::layout::KEY_LIMIT;

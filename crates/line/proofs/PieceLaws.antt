@@ -13,13 +13,15 @@ use lib.Dec.{ltb, leb, eqb}
 use lib.Seq.{drop-cons, take-suc-set, length-take-le}
 use borrow.Author.Tests.{ltb-true, ltb-false, leb-true, leb-false, lt-ltb, le-ltb, le-leb, lt-leb, eq-eqb, ne_eqb}
 use Rattle.std.specs.Prelude
-use Rattle.std.specs.Prelude.{Some}
+use Rattle.std.specs.Prelude.{Some, Result}
 use Rattle.promises.specs.Meaning.{Meaning}
 use Rattle.promises.specs.Says.{empty}
 use Rattle.line.specs.Line.{Line, bad, line_of, short_line}
 use Rattle.line.specs.Answer.{answer_line}
 use Rattle.line.specs.Run.{last_line, lines_from, answers, held_of, grow, held_line, Taken, more, ended, take_line, Feed, wrote, feed, finish, feed_all, joined, AnyPieces}
-use Rattle.line.specs.Code.{held_in}
+use Rattle.line.specs.Code.{held_in, LineIs}
+use Rattle.line.specs.declared.reading.Parsed.{Parsed}
+use Rattle.line.specs.declared.reading.LineError.{LineError}
 
 -- ONE BYTE
 
@@ -45,6 +47,9 @@ pub take_step : (p : List ℕ) (i : ℕ) {y : Option (List ℕ)} (x : Option (Li
     → take_line y (drop (i + 1) p) ≡ t
 unfolding take_line
 take_step p i x h e f inv = rw (add-one, f) (rw (drop-cons p i 0 h, ne_eqb (get_or p i 0) 10 e) at inv)
+
+pub held_line_lem : (n : ℕ) (l : List ℕ) {b c : List ℕ} {r : Result Parsed LineError} → LineIs (short_line (take n l)) b c r → LineIs (held_line (held_in (Some n) l)) b c r
+held_line_lem n l k = k
 
 -- THE WHOLE FROM ITS PIECES
 

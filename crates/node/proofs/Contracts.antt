@@ -1,8 +1,9 @@
 -- A law for each way out of a function: from its callees' contracts to its own. Assumes nothing.
-use mathlib.Core.Path.{◌≡◌, sym, ap, ◌∙◌}
+use mathlib.Core.Path.{◌≡◌, refl, sym, ap, ◌∙◌}
 use mathlib.Core.Bool.{true}
 use Rattle.std.specs.Prelude.{Option as CodeOption, Some, Result, IsSome}
 use mathlib.Core.List.{List, [], ◌∷◌, ◌++◌}
+use mathlib.Core.Option.{Option, none, some}
 use Prim.Native.Nat.{ℕ, min, ◌+◌, ◌-◌, ◌≤◌, ◌<◌}
 use native.Mathlib.Omega.{arith}
 use lib.Dec.{leb, eqb}
@@ -15,7 +16,7 @@ use Rattle.fields.specs.Number.{little, little_bytes}
 use Rattle.fields.proofs.PartLaws.{lent, lent_back, length_part, length_splice}
 use Rattle.bitmap.specs.Entries.{below}
 use Rattle.sparse_array.specs.Array.{size, entries, with_slot, without_slot, cleared}
-use Rattle.sparse_array.specs.Answers.{placed, WasSet, WasRemoved}
+use Rattle.sparse_array.specs.Answers.{got, placed, WasSet, WasRemoved}
 use Rattle.sparse_array.specs.declared.NoSlot.{NoSlot}
 use Rattle.sparse_array.specs.declared.Put.{Put}
 use Rattle.sparse_array.proofs.ItemLaws.{length_bitmap}
@@ -23,7 +24,7 @@ use Rattle.sparse_array.proofs.ArrayLaws.{below_bound, length_set_bytes, length_
 use Rattle.node.specs.Layout.{start, array_at, size_at, value_at, Room}
 use Rattle.node.specs.Child.{to_leaf, to_branch, decoded, item_of}
 use Rattle.node.specs.Leaf.{key_size, leaf_in, set_leaf, set_value}
-use Rattle.node.specs.Branch.{array_in, children_in, set_array, set_child, remove_child, two_slots, make_branch}
+use Rattle.node.specs.Branch.{array_in, children_in, linked, linked_got, set_array, set_child, remove_child, two_slots, make_branch}
 use Rattle.node.specs.Header.{magic, mark_in, header, head_in, head_of, set_head, set_mark}
 use Rattle.node.specs.declared.child.Link.{Link}
 use Rattle.node.specs.declared.header.Header.{Header}
@@ -173,6 +174,11 @@ module _ (st : List ℕ) (n a : ℕ) (is : a ≡ array_at n) where
 
 pub two_made : (a b c d : List ℕ) (s x r y : ℕ) (t u : Result Put NoSlot) → b ≡ cleared a → WasSet s x b c t → WasSet r y c d u → d ≡ two_slots s x r y a
 two_made a b c d s x r y t u e v w = w.bytes ∙ rw (v.bytes, e)
+
+-- an answer of the array as a link
+linked_got_lem : (cap : ℕ) (o : Option ℕ) → linked_got cap (got o) ≡ linked cap o
+linked_got_lem cap none = refl
+linked_got_lem cap (some x) = refl
 
 -- the place of a slot of a record
 module _ (a : List ℕ) (slot : ℕ) (r : CodeOption ℕ) (st : List ℕ) (n : ℕ) (p : a ≡ array_in st n) (q : r ≡ placed slot (entries a)) (h : slot ≤ 16) where

@@ -6,7 +6,7 @@ ghost use Rattle.node.specs.Header.{head_in, head_of, set_head, set_mark};
 
 use crate::NotAStore;
 use crate::layout::{BLOCK, HEAD, capacity_of};
-use fields::little::{read2, read3, read4, write, write2};
+use fields::little::{read2, read3, read4, write, write2, write4};
 
 // The mark and the layout's version.
 const MARK: u32 = 0x31505150;
@@ -91,5 +91,5 @@ pub fn put_mark(store: &mut [u8])
     requires { header_size ≤ length store.old }
     ensures { store.new ≡ set_mark store.old }
 {
-    write::<4>(store, 0, MARK);
+    write4(store, 0, MARK);
 }

@@ -9,7 +9,7 @@ ghost use Rattle.node.specs.Leaf.{leaf_in, key_size, set_leaf, set_value};
 
 use crate::child::LeafNo;
 use crate::layout::{KEY_LIMIT, key_at, size_at, value_at};
-use fields::little::{read4, write};
+use fields::little::{read4, write4};
 use fields::write1;
 
 // How many bytes of a leaf record are its key: no more than the limit, whatever the length byte says.
@@ -56,7 +56,7 @@ pub fn write_leaf(store: &mut [u8], leaf: LeafNo, key: &[u8], value: u32)
     let t = size_at(leaf);
     write1(store, t, size as u8);
     let v = value_at(leaf);
-    write::<4>(store, v, value);
+    write4(store, v, value);
     let a = key_at(leaf);
     let e = a + size;
     store[a..e].copy_from_slice(key);
@@ -67,5 +67,5 @@ pub fn set_value(store: &mut [u8], leaf: LeafNo, value: u32)
     ensures { store.new ≡ set_value store.old leaf.0 value }
 {
     let a = value_at(leaf);
-    write::<4>(store, a, value);
+    write4(store, a, value);
 }

@@ -11,8 +11,9 @@ ghost use Rattle.index_spec.specs.Layout.{layout};
 ghost use Rattle.index_spec.specs.Replies.{mode_of, page_reply};
 ghost use Rattle.index_spec.specs.Pages.{is_inclusive, count_wrong, next_in, first_call, next_call};
 
-use index_spec::pages::{Mode, PageError};
-use iterator::page::{Page, list};
+pub use index_spec::pages::{Mode, PageError};
+pub use iterator::page::Page;
+use iterator::page::list;
 use lookup::keys::{critical, nibble};
 use node::NotAStore;
 use node::header::{Header, read_head};

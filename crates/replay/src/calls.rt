@@ -112,6 +112,7 @@ pub fn answer(
             out.put::<4>(h / 4294967296);
             len
         }
+        Record::Skipped => len,
         _ => {
             on_store(all, len, page, out, record);
             len

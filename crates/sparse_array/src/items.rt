@@ -2,7 +2,7 @@
 ghost use Rattle.std.specs.Prelude.{◌≡◌, ◌≤◌, ◌<◌, length};
 ghost use Rattle.sparse_array.specs.Array.{size, bitmap_of, item_at, with_bitmap, with_item, opened, closed};
 
-use fields::little::{read3, read4, write};
+use fields::little::{read3, read4, write, write4};
 
 pub fn bitmap(s: &[u8]) -> u32
     requires { length s.now ≡ size }
@@ -15,7 +15,7 @@ pub fn put_bitmap(s: &mut [u8], bits: u32)
     requires { length s.old ≡ size }
     ensures { s.new ≡ with_bitmap s.old bits }
 {
-    write::<4>(s, 0, bits);
+    write4(s, 0, bits);
 }
 
 pub fn item(s: &[u8], at: usize) -> u32

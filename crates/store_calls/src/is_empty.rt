@@ -5,7 +5,7 @@ ghost use Rattle.index_spec.specs.Layout.{layout};
 ghost use Rattle.index_spec.specs.Replies.{empty_reply};
 ghost use Rattle.index_spec.specs.Calls.{empty_call};
 
-use node::NotAStore;
+pub use node::NotAStore;
 use node::header::read_head;
 
 pub fn is_empty(store: &[u8]) -> Result<bool, NotAStore>

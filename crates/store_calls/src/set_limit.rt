@@ -5,7 +5,7 @@ ghost use Rattle.index_spec.specs.Layout.{layout};
 ghost use Rattle.index_spec.specs.Replies.{limit_reply};
 ghost use Rattle.index_spec.specs.Calls.{limit_call};
 
-use node::NotAStore;
+pub use node::NotAStore;
 use node::header::{Header, put_head, read_head};
 
 pub fn set_limit(store: &mut [u8], limit: u16) -> Result<(), NotAStore>

@@ -24,7 +24,7 @@ use Rattle.node.specs.declared.child.BranchNo.{BranchNo}
 use Rattle.node.specs.declared.child.Child.{Child}
 use Rattle.node.specs.declared.child.Child.TheVariants.{Leaf as LeafChild, Branch}
 use Rattle.node.specs.declared.child.Link.{Link}
-use Rattle.trie_spec.proofs.WalkLaws.{link_some, same_link, walk_leaf, walk_step}
+use Rattle.trie_spec.proofs.WalkLaws.{link_some, same_link, same_leaf, walk_leaf, walk_step}
 use Rattle.trie_spec.specs.Walk.{steps, step, on_linked, on_node, walk, first}
 use Rattle.trie_spec.specs.Find.{no_stop, on_walked, find_from, leaf_of, found_at, ends, compared, Found}
 use Rattle.trie_spec.specs.declared.descent.Spot.{Spot}
@@ -86,6 +86,9 @@ module _ (st : List ℕ) (cap : ℕ) (k : List ℕ) where
         ends_on g b c gone = rw gone (ap (ends st cap k (f - 1)) (sym (same_link l b c)) ∙ ends_to)
 
         module _ (n : LeafNo) (c : l.child ≡ LeafChild n) where
+          to_leaf_lem : ends st cap k (f - 1) (to_leaf n.0 l.position) ≡ a
+          to_leaf_lem = ap (ends st cap k (f - 1)) (sym (same_leaf l n c)) ∙ ends_to
+
           pub ends_end : f ≤ 1 → Err not_a_store ≡ a
           ends_end z = ends_over (f - 1) l a ends_to (omega arith)
 
@@ -160,12 +163,12 @@ walked_leaf st k (Err e) = refl
 -- ---- the leaf met
 
 module _ (st k : List ℕ) (n : LeafNo) (q : List ℕ) (key : q ≡ (leaf_in st n.0).key) (f : Bool) (says : Says f (k ≡ q)) where
-  compared_same : f ≡ true → Ok (Some n) ≡ compared st k (Ok (Some n))
+  pub compared_same : f ≡ true → Ok (Some n) ≡ compared st k (Ok (Some n))
   compared_same e =
       let w : k ≡ (leaf_in st n.0).key = subst (λ (b : Bool). Says b (k ≡ q)) e says ∙ key in
       sym (key_same w (Ok (Some n)) (Ok None))
 
-  compared_other : f ≡ false → Ok None ≡ compared st k (Ok (Some n))
+  pub compared_other : f ≡ false → Ok None ≡ compared st k (Ok (Some n))
   compared_other e =
       let w : k ≢ (leaf_in st n.0).key = λ z. subst (λ (b : Bool). Says b (k ≡ q)) e says (z ∙ sym key) in
       sym (key_other w (Ok (Some n)) (Ok None))

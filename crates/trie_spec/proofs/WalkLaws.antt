@@ -147,6 +147,9 @@ module _ (st : List ℕ) (cap : ℕ) (k : List ℕ) (d number p : ℕ) (a : Resu
       near_on g e b c gone deeper = rw (gone, deeper) (ap (near st cap k (f - 1) (d + 1)) (sym (same_link l b c)) ∙ near_to)
 
       module _ (n : LeafNo) (c : l.child ≡ LeafChild n) where
+        to_leaf_lem : near st cap k (f - 1) (d + 1) (to_leaf n.0 l.position) ≡ a
+        to_leaf_lem = ap (near st cap k (f - 1) (d + 1)) (sym (same_leaf l n c)) ∙ near_to
+
         pub near_end : f ≤ 1 → Err not_a_store ≡ a
         near_end z = close_end st cap k (d + 1) l a (f - 1) near_to (omega arith)
 

@@ -1,4 +1,5 @@
--- Insertion over bytes: what a key equal to the closest leaf's comes to, and another one, and that a critical position is small. Assumes nothing.
+-- Insertion over bytes: what a key equal to the closest leaf's comes to, and another one, that a critical position is small, and what the first key comes to.
+-- Assumes nothing.
 use Prim.Native.Nat.{ℕ, ◌+◌, ◌*◌, ◌≤◌, ◌<◌}
 use mathlib.Core.Path.{◌≡◌, sym, subst, ◌∙◌}
 use mathlib.Core.Logic.{◌≢◌}
@@ -9,6 +10,7 @@ use native.Mathlib.Omega.{arith}
 use lib.ListN.{length}
 use mir.Syntax.{w8, w64}
 use mir.Val.{Fits}
+use borrow.Author.Tests.{eq-eqb}
 use Rattle.model.specs.Key.{key_limit}
 use Rattle.model.specs.Nibble.{critical}
 use Rattle.model.proofs.KeyLaws.{key_same, key_other, critical_differs}
@@ -17,7 +19,8 @@ use Rattle.fields.specs.Common.{Says}
 use Rattle.node.specs.Leaf.{leaf_in, set_value}
 use Rattle.node.specs.declared.child.Link.{Link}
 use Rattle.node.specs.declared.header.Header.{Header}
-use Rattle.trie_spec.specs.Writes.{outcome, put_beside, put_near, Put}
+use Rattle.trie_spec.specs.Writes.{outcome, hung, put_beside, put_near, insert_in, Put}
+use Rattle.trie_spec.specs.declared.descent.Spot.TheVariants.{Root}
 use Rattle.trie_spec.specs.declared.insert.Inserted.TheVariants.{Replaced}
 use Rattle.std.specs.Prelude.{Ok}
 
@@ -35,6 +38,9 @@ module _ (st : List ℕ) (h : Header) (k : List ℕ) (v : ℕ) (root : Link) (n 
 
   pub replaced_bytes : (st' : List ℕ) → f ≡ true → st' ≡ set_value st n v → st' ≡ (put_near st h k v root n d).bytes
   replaced_bytes st' e w = w ∙ rw (key_same (equal e) (outcome {A = Put} (Ok Replaced) (set_value st n v)) _)
+
+  pub is_new_lem : f ≡ false → k ≢ (leaf_in st n).key
+  is_new_lem e = differ e
 
   pub new_answer_lem : (a : Put) → f ≡ false → a ≡ (put_beside st h k v root n d).answer → a ≡ (put_near st h k v root n d).answer
   new_answer_lem a e g = g ∙ rw (key_other (differ e) (outcome {A = Put} (Ok Replaced) (set_value st n v)) (put_beside st h k v root n d))
@@ -58,3 +64,11 @@ module _ (st : List ℕ) (h : Header) (k : List ℕ) (v : ℕ) (root : Link) (n 
 
   pub next_fits : length k ≤ key_limit → length q ≤ key_limit → Fits w64 (c + 1)
   next_fits lk lq = record { fits = omega (arith, place_small lk lq) }
+
+-- a key in an empty store
+module _ (st : List ℕ) (h : Header) (k : List ℕ) (v : ℕ) where
+  pub first_answer : (a : Put) → h.leaves ≡ 0 → a ≡ (hung st h k v Root).answer → a ≡ (insert_in st h k v).answer
+  first_answer a e q = q ∙ rw (eq-eqb h.leaves 0 e)
+
+  pub first_bytes_lem : (b : List ℕ) → h.leaves ≡ 0 → b ≡ (hung st h k v Root).bytes → b ≡ (insert_in st h k v).bytes
+  first_bytes_lem b e q = q ∙ rw (eq-eqb h.leaves 0 e)
